@@ -1,0 +1,4 @@
+pub mod Lowest
+pub mod Refusing
+pub mod Fitted
+pub mod Grid

@@ -1,0 +1,90 @@
+-- A new beat is in lowest terms and has the fraction's value, and a beat is its value: equal fractions have one beat.
+use mathlib.Core.Path.{_≡_, refl, sym, ap, _∙_, subst}
+use mathlib.Core.Bool.{true}
+use Prim.Native.Nat.{ℕ, zero, suc, max, _*_, _/_, _<_, _∣_}
+use native.Mathlib.Nat.{zero-div, div-self, zero-mul, div-one, le-div-iff-mul-le, div-mul-cancel, dvd-mul-left}
+use native.Mathlib.Omega.{arith}
+use lib.IntN.{ℤ, pos, negsuc, negℤ, natAbs, _*ℤ_}
+use lib.Signed.{quotZ}
+use Rattle.numbers.specs.Divisor.{gcdOf}
+use Rattle.numbers.specs.Signs.{isNeg, withSign}
+use Rattle.numbers.proofs.Divisor.{gcd-left, gcd-right, gcd-pos, gcd-le}
+use Rattle.numbers.proofs.Coprime.{gcd-over, gcd-of-zero, euclid, same-den, same-num}
+use Rattle.numbers.proofs.Exacts.{abs-sign, sign-abs, abs-times, neg-times}
+use Rattle.beats.specs.declared.Beat.{Beat}
+use Rattle.beats.specs.Beats.{lowest, newBeat}
+
+-- ---- lowest terms
+
+pub abs-quot : (z : ℤ) (g : ℕ) → natAbs (quotZ z (pos g)) ≡ natAbs z / g
+abs-quot (pos a) g = refl
+abs-quot (negsuc a) g = abs-sign true (suc a / g)
+
+pub lowest-terms : (n : ℤ) (d : ℕ) → gcdOf (natAbs (newBeat n d .num)) (newBeat n d .den) ≡ 1
+unfolding newBeat lowest
+lowest-terms n d = rw (abs-quot n (gcdOf (natAbs n) (max d 1))) (gcd-over (natAbs n) (max d 1) (omega arith))
+
+pub den-pos : (n : ℤ) (d : ℕ) → 0 < newBeat n d .den
+unfolding newBeat lowest
+den-pos n d = le-div-iff-mul-le (gcd-pos (natAbs n) (max d 1) (omega arith)) .1 (omega (arith, gcd-le (natAbs n) (max d 1) (omega arith)))
+
+-- ---- the same value
+
+cross : (a d : ℕ) → a / gcdOf a d * d ≡ a * (d / gcdOf a d)
+cross a d =
+    let g = gcdOf a d in
+    ap (λ (n : ℕ). a / g * n) (sym (div-mul-cancel g (gcd-right a d)))
+    ∙ swap (a / g) (d / g) g
+    ∙ ap (λ (n : ℕ). n * (d / g)) (div-mul-cancel g (gcd-left a d))
+  where
+    swap : (x y z : ℕ) → x * (y * z) ≡ x * z * y
+    swap x y z = omega arith
+
+minus-times : (k d : ℕ) → negℤ (pos k) *ℤ pos d ≡ negℤ (pos (k * d))
+minus-times zero d = rw (zero-mul d)
+minus-times (suc k) d = refl
+
+pub same-value : (n : ℤ) (d : ℕ) → newBeat n d .num *ℤ pos (max d 1) ≡ n *ℤ pos (newBeat n d .den)
+unfolding newBeat lowest
+same-value (pos a) d = ap pos (cross a (max d 1))
+same-value (negsuc a) d = minus-times (suc a / gcdOf (suc a) (max d 1)) (max d 1) ∙ ap (λ (k : ℕ). negℤ (pos k)) (cross (suc a) (max d 1))
+
+-- ---- a beat in lowest terms stays as it is
+
+quot-one : (z : ℤ) → quotZ z (pos 1) ≡ z
+quot-one (pos a) = ap pos (div-one a)
+quot-one (negsuc a) = rw (div-one (suc a))
+
+pub stays : (b : Beat) → 0 < b .den → gcdOf (natAbs (b .num)) (b .den) ≡ 1 → newBeat (b .num) (b .den) ≡ b
+unfolding newBeat lowest
+stays b h e =
+    let m : max (b .den) 1 ≡ b .den = omega arith in
+    rw (m, e, quot-one (b .num), div-one (b .den))
+
+-- ---- 0 / d is 0 / 1
+
+pub nothing-is : (d : ℕ) → newBeat (pos 0) d ≡ record { num = pos 0; den = 1 }
+unfolding newBeat lowest
+nothing-is d =
+    let h : 0 < max d 1 = omega arith in
+    rw (gcd-of-zero (max d 1) h, zero-div (max d 1), div-self h)
+
+-- ---- equal values
+
+-- a beat is its value
+pub same-beat : (a b : Beat) → 0 < a .den → 0 < b .den → gcdOf (natAbs (a .num)) (a .den) ≡ 1 → gcdOf (natAbs (b .num)) (b .den) ≡ 1 → a .num *ℤ pos (b .den) ≡ b .num *ℤ pos (a .den) → a ≡ b
+same-beat a b ha hb p q e =
+    let f : natAbs (a .num) * b .den ≡ natAbs (b .num) * a .den
+    = sym (abs-times (a .num) (b .den)) ∙ ap natAbs e ∙ abs-times (b .num) (a .den) in
+    let s : isNeg (a .num) ≡ isNeg (b .num)
+    = sym (neg-times (a .num) (b .den) hb) ∙ ap isNeg e ∙ neg-times (b .num) (a .den) ha in
+    let n : natAbs (a .num) ≡ natAbs (b .num) = same-num (natAbs (a .num)) (a .den) (natAbs (b .num)) (b .den) ha hb p q f in
+    let d : a .den ≡ b .den = same-den (natAbs (a .num)) (a .den) (natAbs (b .num)) (b .den) ha hb p q f in
+    let m : a .num ≡ b .num = sym (sign-abs (a .num)) ∙ (λ i. withSign (s i) (n i)) ∙ sign-abs (b .num) in
+    λ i. record { num = m i; den = d i }
+
+-- the denominator of a fraction in lowest terms divides that of any fraction with its value
+pub den-divides : (b : Beat) (m : ℤ) (k : ℕ) → 0 < b .den → 0 < k → gcdOf (natAbs (b .num)) (b .den) ≡ 1 → b .num *ℤ pos k ≡ m *ℤ pos (b .den) → b .den ∣ k
+den-divides b m k hb hk p e =
+    let f : natAbs (b .num) * k ≡ natAbs m * b .den = sym (abs-times (b .num) k) ∙ ap natAbs e ∙ abs-times m (b .den) in
+    euclid (b .den) (natAbs (b .num)) k hk p (subst (λ (x : ℕ). b .den ∣ x) (sym f) (dvd-mul-left (b .den) (natAbs m)))

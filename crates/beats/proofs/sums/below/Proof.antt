@@ -1,0 +1,44 @@
+-- Less is what the cross products' own order says (`less-is`).
+use mathlib.Core.Path.{_≡_, sym, ap, _∙_}
+use lib.IntN.{pos, _*ℤ_}
+use Rattle.numbers.proofs.Orders.{isLess, less-is}
+use Rattle.beats.specs.Sums.{orderOfBeats, belowBeat}
+use Rattle.beats.specs.declared.Beat.{Beat}
+use borrow.Author.Needs.{needs}
+use Rattle.beats.proofs.sums.below.Statement.{statement}
+use Rattle.beats.proofs.sums.below.Tie as tie
+
+below-is : (a b : Beat) → isLess (orderOfBeats a b) ≡ belowBeat a b
+below-is a b = less-is (a .num *ℤ pos (b .den)) (b .num *ℤ pos (a .den))
+
+order-requires : tie.Need-order-requires
+order-requires c κs = search needs
+
+enum-told : tie.Need-enum-told
+enum-told c = search needs
+
+enum-told-2 : tie.Need-enum-told-2
+enum-told-2 c = search needs
+
+enum-told-3 : tie.Need-enum-told-3
+enum-told-3 c = search needs
+
+returns : tie.Need-returns
+returns c =
+    let s = c .before .before .before .args in
+    ap isLess (sym (c .enum-told .given .1) ∙ c .before .before .order .ensures) ∙ below-is (s .a) (s .b)
+
+returns-2 : tie.Need-returns-2
+returns-2 c =
+    let s = c .before .before .before .args in
+    ap isLess (sym (c .enum-told2 .given .1) ∙ c .before .before .order .ensures) ∙ below-is (s .a) (s .b)
+
+returns-3 : tie.Need-returns-3
+returns-3 c =
+    let s = c .before .before .before .args in
+    ap isLess (sym (c .enum-told3 .given .1) ∙ c .before .before .order .ensures) ∙ below-is (s .a) (s .b)
+
+pub below-spec : {M : Type 1} → statement M
+below-spec =
+    tie.close
+    (tie.spec order-requires enum-told enum-told-2 enum-told-3 returns returns-2 returns-3)

@@ -1,0 +1,14 @@
+-- Two factors below 2^32 have a product below 2^64.
+use Rattle.beats.proofs.Fitted.{dens-fit}
+use borrow.Author.Needs.{needs}
+use Rattle.beats.proofs.sums.common.Statement.{statement}
+use Rattle.beats.proofs.sums.common.Tie as tie
+
+mul-result : tie.Need-mul-result
+mul-result c = record { fits = dens-fit (search needs) (search needs) }
+
+returns : tie.Need-returns
+returns c = search needs
+
+pub common-spec : {M : Type 1} → statement M
+common-spec = tie.close (tie.spec mul-result returns)

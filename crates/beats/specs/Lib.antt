@@ -1,0 +1,5 @@
+pub mod Beats
+pub mod Sums
+pub mod Frames
+pub mod Steps
+pub mod Readings

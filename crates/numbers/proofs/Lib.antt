@@ -1,0 +1,7 @@
+pub mod Signs
+pub mod Divisor
+pub mod Coprime
+pub mod Words
+pub mod Exacts
+pub mod Parts
+pub mod Orders

@@ -1,0 +1,76 @@
+-- The order of two numbers is the sign of their difference: one of three, the other way round when they are exchanged, and equal for the same number only.
+use mathlib.Core.Path.{_≡_, refl, sym, ap, _∙_}
+use mathlib.Core.Bool.{Bool, true, false, cond}
+use Prim.Native.Nat.{ℕ, zero, suc, _+_, _-_, _<_}
+use native.Mathlib.Omega.{arith}
+use lib.Dec.{ltb, leb·suc-suc}
+use lib.IntN.{ℤ, pos, negsuc, negℤ, _+ℤ_, _-ℤ_}
+use lib.Signed.{ltZ}
+use borrow.Author.Tests.{lt-ltb}
+use Rattle.numbers.specs.declared.exact.Order.{Order}
+use Rattle.numbers.specs.declared.exact.Order.the-variants.{Less, Equal, Greater}
+use Rattle.numbers.specs.Signs.{isNeg}
+use Rattle.numbers.specs.Exacts.{orderOf}
+use Rattle.numbers.proofs.Exacts.{pos+neg}
+use Rattle.numbers.proofs.Parts.{up, down, eq-parts, sum-parts, up-neg, down-neg}
+
+sub-sign : (c : Bool) (x y : ℕ) → isNeg (cond c (negsuc x) (pos y)) ≡ c
+sub-sign true x y = refl
+sub-sign false x y = refl
+
+-- a difference is below zero exactly where the first is below the second
+pub below-iff : (x y : ℤ) → isNeg (x -ℤ y) ≡ ltZ x y
+below-iff (pos a) (pos b) = ap isNeg (pos+neg a b) ∙ sub-sign (ltb a b) (b - suc a) (a - b)
+below-iff (pos a) (negsuc b) = refl
+below-iff (negsuc a) (pos zero) = sub-sign (ltb 0 (suc a)) (suc a - 1) (0 - suc a) ∙ lt-ltb 0 (suc a) (omega arith)
+below-iff (negsuc a) (pos (suc b)) = refl
+below-iff (negsuc a) (negsuc b) = sub-sign (ltb (suc b) (suc a)) (suc a - suc (suc b)) (suc b - suc a) ∙ leb·suc-suc (suc b) a
+
+-- whether an order is Less
+abbrev pub isLess : Order → Bool
+isLess Less = true
+isLess Equal = false
+isLess Greater = false
+
+order-sign : (z : ℤ) → isLess (orderOf z) ≡ isNeg z
+order-sign (pos zero) = refl
+order-sign (pos (suc n)) = refl
+order-sign (negsuc n) = refl
+
+-- Less is what the numbers' own order says
+pub less-is : (x y : ℤ) → isLess (orderOf (x -ℤ y)) ≡ ltZ x y
+less-is x y = order-sign (x -ℤ y) ∙ below-iff x y
+
+-- ---- equal, and the other way round
+
+zero-only : (z : ℤ) → orderOf z ≡ Equal → z ≡ pos 0
+zero-only (pos zero) e = refl
+zero-only (pos (suc n)) e = cc
+zero-only (negsuc n) e = cc
+
+gap-parts : (x y : ℤ) → up (x -ℤ y) + (down x + up y) ≡ down (x -ℤ y) + (up x + down y)
+gap-parts x y = omega (arith, sum-parts x (negℤ y), up-neg y, down-neg y)
+
+pub equal-only : (x y : ℤ) → orderOf (x -ℤ y) ≡ Equal → x ≡ y
+equal-only x y e =
+    let z = zero-only (x -ℤ y) e in
+    eq-parts x y (omega (arith, gap-parts x y, ap up z, ap down z))
+
+pub same-equal : (x : ℤ) → orderOf (x -ℤ x) ≡ Equal
+same-equal x = ap orderOf (eq-parts (x -ℤ x) (pos 0) (omega (arith, gap-parts x x)))
+
+-- the order of the same two, exchanged
+abbrev pub turned : Order → Order
+turned Less = Greater
+turned Equal = Equal
+turned Greater = Less
+
+order-minus : (z : ℤ) → orderOf (negℤ z) ≡ turned (orderOf z)
+order-minus (pos zero) = refl
+order-minus (pos (suc n)) = refl
+order-minus (negsuc n) = refl
+
+pub exchanged : (x y : ℤ) → orderOf (y -ℤ x) ≡ turned (orderOf (x -ℤ y))
+exchanged x y =
+    ap orderOf (eq-parts (y -ℤ x) (negℤ (x -ℤ y)) (omega (arith, gap-parts x y, gap-parts y x, up-neg (x -ℤ y), down-neg (x -ℤ y))))
+    ∙ order-minus (x -ℤ y)

@@ -1,0 +1,65 @@
+-- The size, less one where the number is below zero, is stopped before the machine's bits are made of it.
+use borrow.Author.Needs.{needs}
+use mathlib.Core.Path.{_≡_, sym, ap, _∙_}
+use Prim.Native.Nat.{ℕ, _<_, _^_}
+use native.Mathlib.Omega.{arith}
+use lib.IntN.{ℤ, negsuc}
+use mathlib.Core.Bool.{Bool}
+use mir.Syntax.{w64}
+use mir.ValLaws.{toZ-ofZ}
+use Rattle.numbers.specs.Signs.{withSign, toI64}
+use Rattle.numbers.proofs.Signs.{flip-read, stopped-neg, read-pos}
+use Rattle.numbers.proofs.signed.Statement.{statement}
+use Rattle.numbers.proofs.signed.Tie as tie
+
+sub-below-half : tie.Need-sub-below-half
+sub-below-half c = search needs
+
+below-half-requires : tie.Need-below-half-requires
+below-half-requires c κs = search needs
+
+cast-result : tie.Need-cast-result
+cast-result c = search needs
+
+small : (c : tie.After-below-half) → c .below-half .result < 2 ^ 63
+small c = omega (arith, c .below-half .ensures)
+
+sub-result : tie.Need-sub-result
+sub-result c = rw (flip-read (c .below-half .result) (small c)) (record { sfits = small c })
+
+below-half-requires-2 : tie.Need-below-half-requires-2
+below-half-requires-2 c κs = search needs
+
+cast-result-2 : tie.Need-cast-result-2
+cast-result-2 c = search needs
+
+returns : tie.Need-returns
+returns c = rw (c .before .if1 .taken, c .if2 .taken)
+
+returns-2 : tie.Need-returns-2
+returns-2 c =
+    let s = c .before .before .before .args in
+    toZ-ofZ w64 _ (sub-result c)
+    ∙ flip-read (c .below-half .result) (small c)
+    ∙ stopped-neg (s .size) (c .below-half .result) (c .before .if2 .left) (c .below-half .ensures)
+    ∙ ap (λ (b : Bool). toI64 (withSign b (s .size))) (sym (c .before .before .if1 .taken))
+
+returns-3 : tie.Need-returns-3
+returns-3 c =
+    let k = c .below-half2 .result in
+    let e = c .below-half2 .ensures in
+    rw (c .before .if1 .left) (read-pos k (omega (arith, e)) ∙ ap lib.IntN.pos e)
+
+pub signed-spec : {M : Type 1} → statement M
+signed-spec =
+    tie.close
+    (tie.spec
+    sub-below-half
+    below-half-requires
+    cast-result
+    sub-result
+    below-half-requires-2
+    cast-result-2
+    returns
+    returns-2
+    returns-3)

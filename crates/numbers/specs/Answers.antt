@@ -1,0 +1,13 @@
+-- What a call answers, in the numbers of document 01. Every crate reads its enums through this.
+use Prim.Native.Nat.{ℕ}
+use mathlib.Core.List.{List, [], _∷_}
+
+-- accepted, with its values; or refused, by a number and the facts that go with it (none but for 7: what, place, value)
+pub data Answer (A : Type 0) : Type 0 where
+  accepted : A → Answer A
+  refused : ℕ → List ℕ → Answer A
+
+-- the number: 0 where the call is accepted
+abbrev pub number : {A : Type 0} → Answer A → ℕ
+number (accepted a) = 0
+number (refused n facts) = n

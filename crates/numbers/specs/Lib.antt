@@ -1,0 +1,4 @@
+pub mod Answers
+pub mod Signs
+pub mod Divisor
+pub mod Exacts

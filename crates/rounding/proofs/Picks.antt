@@ -1,0 +1,86 @@
+-- A maximum and a clamp from the tests that a function makes: each test is one of the definition's own, so nothing is left but to put it in. Over no format.
+use mathlib.Core.Path.{_≡_, refl, sym}
+use mathlib.Core.Bool.{Bool, true, false, _||_, cond, true≢false}
+use native.Mathlib.Nat.{le-refl}
+use borrow.Author.Tests.{le-ltb}
+use Prim.Native.Nat.{_*_}
+use lib.Ieee.{Float, nan, inf, fin, up, down, lt, ne, isNan}
+use Rattle.rounding.specs.Floats.{maximum, clamp}
+use Rattle.rounding.proofs.Nan.{is-nan}
+
+module _ (x y : Float) where
+  pub max-less : lt x y ≡ true → y ≡ maximum x y
+  unfolding maximum
+  max-less h = go (isNan x) (lt x y) h
+    where
+      go : (a b : Bool) → b ≡ true → y ≡ cond (a || b) y x
+      go true b k = refl
+      go false true k = refl
+      go false false k = absurd (true≢false (sym k))
+
+  pub max-nan : ne x x ≡ true → y ≡ maximum x y
+  unfolding maximum isNan
+  max-nan h = rw (is-nan x h)
+
+pub max-else : (x y : Float) → lt x y ≡ false → ne x x ≡ false → x ≡ maximum x y
+unfolding maximum isNan ne
+max-else nan y h k = absurd (true≢false k)
+max-else (inf s) y h k = rw h
+max-else (fin s m e) y h k = rw h
+
+module _ (x low high : Float) where
+  pub clamp-low : lt x low ≡ true → low ≡ clamp x low high
+  unfolding clamp
+  clamp-low h = rw h
+
+  pub clamp-high : lt x low ≡ false → lt high x ≡ true → high ≡ clamp x low high
+  unfolding clamp
+  clamp-high h k = rw (h, k)
+
+  pub clamp-else : lt x low ≡ false → lt high x ≡ false → x ≡ clamp x low high
+  unfolding clamp
+  clamp-else h k = rw (h, k)
+
+-- ---- what holds of what was picked
+
+not-below-itself : (x : Float) → lt x x ≡ false
+unfolding lt
+not-below-itself nan = refl
+not-below-itself (inf true) = refl
+not-below-itself (inf false) = refl
+not-below-itself (fin true m e) = le-ltb (m * up e * down e) (m * up e * down e) (le-refl (m * up e * down e))
+not-below-itself (fin false m e) = le-ltb (m * up e * down e) (m * up e * down e) (le-refl (m * up e * down e))
+
+pub max-nan-left : (y : Float) → maximum nan y ≡ y
+unfolding maximum isNan
+max-nan-left y = refl
+
+pub max-nan-right : (x : Float) → maximum x nan ≡ x
+unfolding maximum isNan lt
+max-nan-right nan = refl
+max-nan-right (inf s) = refl
+max-nan-right (fin s m e) = refl
+
+pub max-not-below : (x y : Float) → lt (maximum x y) y ≡ false
+unfolding maximum
+max-not-below x y = go (isNan x) (lt x y) refl
+  where
+    go : (a b : Bool) → lt x y ≡ b → lt (cond (a || b) y x) y ≡ false
+    go true b h = not-below-itself y
+    go false true h = not-below-itself y
+    go false false h = h
+
+pub clamp-nan : (low high : Float) → clamp nan low high ≡ nan
+unfolding clamp lt
+clamp-nan low nan = refl
+clamp-nan low (inf s) = refl
+clamp-nan low (fin s m e) = refl
+
+pub clamp-within : (x low high : Float) → lt high low ≡ false → (lt (clamp x low high) low ≡ false) × (lt high (clamp x low high) ≡ false)
+unfolding clamp
+clamp-within x low high order = go (lt x low) (lt high x) refl refl
+  where
+    go : (a b : Bool) → lt x low ≡ a → lt high x ≡ b → (lt (cond a low (cond b high x)) low ≡ false) × (lt high (cond a low (cond b high x)) ≡ false)
+    go true b h k = (not-below-itself low, order)
+    go false true h k = (order, not-below-itself high)
+    go false false h k = (h, k)

@@ -1,0 +1,18 @@
+-- `rounding::cut_to_u32` meets its contract: the narrower cast is the wider one, stopped at its own end.
+use lib.Dec.{lit≤}
+use borrow.Author.Needs.{needs}
+use Rattle.rounding.proofs.Signs.{narrow}
+use Rattle.rounding.proofs.cut_to_u32.Statement.{statement}
+use Rattle.rounding.proofs.cut_to_u32.Tie as tie
+
+cut-to-u64-requires : tie.Need-cut-to-u64-requires
+cut-to-u64-requires c κs = search needs
+
+narrowed-requires : tie.Need-narrowed-requires
+narrowed-requires c κs = search needs
+
+returns : tie.Need-returns
+returns c = cc (narrow 32 64 (lit≤ tt) (c .before .before .args .x))
+
+pub cut-to-u32-spec : {M : Type 1} → statement M
+cut-to-u32-spec = tie.close (tie.spec cut-to-u64-requires narrowed-requires returns)

@@ -1,0 +1,227 @@
+// Floats worked out from their bits: rounding half away from zero, flooring, the casts that stop at
+// a width's ends, maximum, clamp, widening, and floats as words. Every function answers every
+// input, NaNs and infinities included, and its contract is one equation.
+ghost use mathlib.Core.Path.{_≡_};
+ghost use Prim.Native.Nat.{min};
+ghost use lib.Ieee as Ieee;
+ghost use lib.Ieee.{binary32, binary64};
+ghost use Rattle.rounding.specs.Floats.{roundAway, withoutSign, floorOf, maximum, clamp};
+
+// Rounding: the nearest whole number, halves away from zero.
+
+// The size of x, rounded: 2^64 - 1 where it is too large, and 0 for a NaN. Every rounding reads the
+// bits here, since adding 0.5 as a float and cutting would take 0.49999999999999994 to 1.
+pub fn round_size(x: f64) -> u64
+    ensures { λ r. ⌜ r ≡ Ieee.toUnsigned 64 (roundAway (withoutSign x)) ⌝ }
+{
+    if x != x {
+        return 0;
+    }
+    // the size is `digits` * 2 ^ (`exponent` - 1075), unless the exponent is 0 or 2047
+    let bits: u64 = f64::to_bits(x) & 0x7fff_ffff_ffff_ffff;
+    let exponent: u64 = bits >> 52;
+    let digits: u64 = (bits & 0xf_ffff_ffff_ffff) | 0x10_0000_0000_0000;
+    if exponent < 1022 {
+        return 0;
+    }
+    if exponent > 1086 {
+        return 0xffff_ffff_ffff_ffff;
+    }
+    if exponent <= 1075 {
+        // twice the size, cut, then one more half, and halved
+        (((digits << 1) >> (1075 - exponent)) + 1) >> 1
+    } else {
+        digits << (exponent - 1075)
+    }
+}
+
+// `x.round().max(0.0) as u64`: below 0 and for a NaN 0, too large 2^64 - 1.
+pub fn round_to_u64(x: f64) -> u64
+    ensures { λ r. ⌜ r ≡ Ieee.toUnsigned 64 (roundAway x) ⌝ }
+{
+    if x < 0.0 { 0 } else { round_size(x) }
+}
+
+// `x.round() as i64`.
+pub fn round_to_i64(x: f64) -> i64
+    ensures { λ r. ⌜ r ≡ Ieee.toSigned 63 (roundAway x) ⌝ }
+{
+    numbers::signed(x < 0.0, round_size(x))
+}
+
+// `x.round() as u32`.
+pub fn round_to_u32(x: f32) -> u32
+    ensures { λ r. ⌜ r ≡ Ieee.toUnsigned 32 (roundAway x) ⌝ }
+{
+    narrowed(round_to_u64(widened(x)))
+}
+
+// Casts: towards zero.
+
+// `x as u64`.
+pub fn cut_to_u64(x: f64) -> u64
+    ensures { λ r. ⌜ r ≡ Ieee.toUnsigned 64 x ⌝ }
+{
+    if x < 18446744073709551616.0 {
+        if x > -1.0 {
+            std::num::truncating_f64_to_u64(x)
+        } else {
+            0
+        }
+    } else {
+        if x != x { 0 } else { 0xffff_ffff_ffff_ffff }
+    }
+}
+
+// `x as u32`.
+pub fn cut_to_u32(x: f64) -> u32
+    ensures { λ r. ⌜ r ≡ Ieee.toUnsigned 32 x ⌝ }
+{
+    narrowed(cut_to_u64(x))
+}
+
+// `x as i64`.
+pub fn cut_to_i64(x: f64) -> i64
+    ensures { λ r. ⌜ r ≡ Ieee.toSigned 63 x ⌝ }
+{
+    if x < 0.0 {
+        numbers::signed(true, cut_to_u64(-x))
+    } else {
+        numbers::signed(false, cut_to_u64(x))
+    }
+}
+
+// n, stopped at the end of a u32.
+fn narrowed(n: u64) -> u32
+    ensures { λ r. ⌜ r ≡ min n 0xffff_ffff ⌝ }
+{
+    if n > 0xffff_ffff {
+        0xffff_ffff
+    } else {
+        n as u32
+    }
+}
+
+// `x.floor()`. A float of 2^53 and more has no fraction.
+pub fn floor(x: f64) -> f64
+    ensures { λ r. ⌜ r ≡ floorOf binary64 x ⌝ }
+{
+    if x > 0.0 {
+        if x < 9007199254740992.0 {
+            std::num::nearest_u64_to_f64(cut_to_u64(x))
+        } else {
+            x
+        }
+    } else if x < 0.0 {
+        if x > -9007199254740992.0 {
+            let n: u64 = cut_to_u64(-x);
+            let whole: f64 = std::num::nearest_u64_to_f64(n);
+            if whole < -x {
+                -std::num::nearest_u64_to_f64(n + 1)
+            } else {
+                -whole
+            }
+        } else {
+            x
+        }
+    } else {
+        x
+    }
+}
+
+// Picks: a NaN goes as document 01 says, whichever side it stands on.
+
+// `x.max(y)`: a NaN gives the other side.
+pub fn max_f32(x: f32, y: f32) -> f32
+    ensures { λ r. ⌜ r ≡ maximum x y ⌝ }
+{
+    if x < y {
+        return y;
+    }
+    if x != x { y } else { x }
+}
+
+// `x.max(y)`: a NaN gives the other side.
+pub fn max_f64(x: f64, y: f64) -> f64
+    ensures { λ r. ⌜ r ≡ maximum x y ⌝ }
+{
+    if x < y {
+        return y;
+    }
+    if x != x { y } else { x }
+}
+
+// `x.clamp(low, high)`: NaN and -0 stay. Where Rust panics, the definition's answer stands.
+pub fn clamp_f32(x: f32, low: f32, high: f32) -> f32
+    ensures { λ r. ⌜ r ≡ clamp x low high ⌝ }
+{
+    if x < low {
+        low
+    } else if x > high {
+        high
+    } else {
+        x
+    }
+}
+
+// `x.clamp(low, high)`: NaN and -0 stay. Where Rust panics, the definition's answer stands.
+pub fn clamp_f64(x: f64, low: f64, high: f64) -> f64
+    ensures { λ r. ⌜ r ≡ clamp x low high ⌝ }
+{
+    if x < low {
+        low
+    } else if x > high {
+        high
+    } else {
+        x
+    }
+}
+
+// Formats: the same value in another form.
+
+// `x as f64`: the same value, and a NaN for a NaN.
+pub fn widened(x: f32) -> f64
+    ensures { λ r. ⌜ r ≡ x ⌝ }
+{
+    std::num::f32_to_f64_with_nan(x)
+}
+
+// The float whose bits are w. Any NaN's bits give a NaN.
+pub fn f32_of(w: u32) -> f32
+    ensures { λ r. ⌜ r ≡ Ieee.ofBits binary32 w ⌝ }
+{
+    if w & 0x7fff_ffff > 0x7f80_0000 {
+        0.0 / 0.0
+    } else {
+        f32::from_bits(w)
+    }
+}
+
+// The bits of x. A NaN is written 0x7FC00000.
+pub fn f32_word(x: f32) -> u32
+    ensures { λ r. ⌜ r ≡ Ieee.toBits binary32 x ⌝ }
+{
+    if x != x { 0x7fc0_0000 } else { f32::to_bits(x) }
+}
+
+// The float whose bits are w. Any NaN's bits give a NaN.
+pub fn f64_of(w: u64) -> f64
+    ensures { λ r. ⌜ r ≡ Ieee.ofBits binary64 w ⌝ }
+{
+    if w & 0x7fff_ffff_ffff_ffff > 0x7ff0_0000_0000_0000 {
+        0.0 / 0.0
+    } else {
+        f64::from_bits(w)
+    }
+}
+
+// The bits of x. A NaN is written 0x7FF8000000000000.
+pub fn f64_word(x: f64) -> u64
+    ensures { λ r. ⌜ r ≡ Ieee.toBits binary64 x ⌝ }
+{
+    if x != x {
+        0x7ff8_0000_0000_0000
+    } else {
+        f64::to_bits(x)
+    }
+}
