@@ -12,8 +12,7 @@ use Rattle.numbers.specs.declared.exact.Exact.{Exact}
 use Rattle.numbers.specs.Answers.{Answer, accepted, refused}
 use Rattle.numbers.specs.Signs.{inI64, toI64}
 use Rattle.numbers.specs.Exacts.{valueOf, exactOf}
-use Rattle.numbers.proofs.Signs.{unstopped}
-use Rattle.numbers.proofs.Exacts.{valued}
+use Rattle.numbers.proofs.Laws.{unstopped, valued}
 use Rattle.beats.specs.declared.Beat.{Beat}
 use Rattle.beats.specs.Beats.{newBeat}
 use Rattle.beats.specs.Sums.{fits, fitted}

@@ -11,7 +11,7 @@ use borrow.Author.Tests.{eq-eqb, ne-eqb}
 use Rattle.numbers.specs.Answers.{Answer, accepted, refused}
 use Rattle.numbers.specs.Divisor.{gcdOf}
 use Rattle.numbers.specs.Signs.{isNeg}
-use Rattle.numbers.proofs.Coprime.{euclid}
+use Rattle.numbers.proofs.Laws.{euclid}
 use Rattle.beats.specs.Steps.{stepOf, onGrid}
 
 module _ (num : ℤ) (den grid : ℕ) where

@@ -8,9 +8,7 @@ use lib.IntN.{ℤ, pos, negsuc, negℤ, natAbs, _*ℤ_}
 use lib.Signed.{quotZ}
 use Rattle.numbers.specs.Divisor.{gcdOf}
 use Rattle.numbers.specs.Signs.{isNeg, withSign}
-use Rattle.numbers.proofs.Divisor.{gcd-left, gcd-right, gcd-pos, gcd-le}
-use Rattle.numbers.proofs.Coprime.{gcd-over, gcd-of-zero, euclid, same-den, same-num}
-use Rattle.numbers.proofs.Exacts.{abs-sign, sign-abs, abs-times, neg-times}
+use Rattle.numbers.proofs.Laws.{gcd-left, gcd-right, gcd-pos, gcd-le, gcd-over, gcd-of-zero, euclid, same-den, same-num, abs-sign, sign-abs, abs-times, neg-times}
 use Rattle.beats.specs.declared.Beat.{Beat}
 use Rattle.beats.specs.Beats.{lowest, newBeat}
 

@@ -3,3 +3,4 @@ pub mod Sums
 pub mod Frames
 pub mod Steps
 pub mod Readings
+pub mod Values

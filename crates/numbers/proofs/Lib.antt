@@ -1,3 +1,4 @@
+pub mod Answers
 pub mod Signs
 pub mod Divisor
 pub mod Coprime
@@ -5,3 +6,4 @@ pub mod Words
 pub mod Exacts
 pub mod Parts
 pub mod Orders
+pub mod Laws

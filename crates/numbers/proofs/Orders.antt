@@ -1,10 +1,11 @@
 -- The order of two numbers is the sign of their difference: one of three, the other way round when they are exchanged, and equal for the same number only.
 use mathlib.Core.Path.{_≡_, refl, sym, ap, _∙_}
 use mathlib.Core.Bool.{Bool, true, false, cond}
-use Prim.Native.Nat.{ℕ, zero, suc, _+_, _-_, _<_}
+use Prim.Native.Nat.{ℕ, zero, suc, _+_, _-_, _*_, _<_}
+use native.Mathlib.Nat.{zero-mul}
 use native.Mathlib.Omega.{arith}
 use lib.Dec.{ltb, leb·suc-suc}
-use lib.IntN.{ℤ, pos, negsuc, negℤ, _+ℤ_, _-ℤ_}
+use lib.IntN.{ℤ, pos, negsuc, negℤ, _+ℤ_, _-ℤ_, _*ℤ_}
 use lib.Signed.{ltZ}
 use borrow.Author.Tests.{lt-ltb}
 use Rattle.numbers.specs.declared.exact.Order.{Order}
@@ -65,7 +66,7 @@ turned Less = Greater
 turned Equal = Equal
 turned Greater = Less
 
-order-minus : (z : ℤ) → orderOf (negℤ z) ≡ turned (orderOf z)
+pub order-minus : (z : ℤ) → orderOf (negℤ z) ≡ turned (orderOf z)
 order-minus (pos zero) = refl
 order-minus (pos (suc n)) = refl
 order-minus (negsuc n) = refl
@@ -74,3 +75,17 @@ pub exchanged : (x y : ℤ) → orderOf (y -ℤ x) ≡ turned (orderOf (x -ℤ y
 exchanged x y =
     ap orderOf (eq-parts (y -ℤ x) (negℤ (x -ℤ y)) (omega (arith, gap-parts x y, gap-parts y x, up-neg (x -ℤ y), down-neg (x -ℤ y))))
     ∙ order-minus (x -ℤ y)
+
+-- ---- a factor above 0 keeps the order
+
+order-grows : (n k : ℕ) → 0 < k → orderOf (pos (suc n * k)) ≡ Greater
+order-grows n k h = go (suc n * k) (omega arith)
+  where
+    go : (m : ℕ) → 0 < m → orderOf (pos m) ≡ Greater
+    go zero p = let z : ⊥ = omega arith in absurd z
+    go (suc m) p = refl
+
+pub order-times : (z : ℤ) (k : ℕ) → 0 < k → orderOf (z *ℤ pos k) ≡ orderOf z
+order-times (pos zero) k h = rw (zero-mul k)
+order-times (pos (suc n)) k h = order-grows n k h
+order-times (negsuc n) k h = order-minus (pos (suc n * k)) ∙ ap turned (order-grows n k h)

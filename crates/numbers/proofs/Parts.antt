@@ -3,10 +3,10 @@
 use mathlib.Core.Path.{_≡_, refl, sym, ap, _∙_, subst}
 use mathlib.Core.Bool.{Bool, true, false, cond, not}
 use Prim.Native.Nat.{ℕ, zero, suc, _+_, _-_, _*_, _<_, _≤_}
-use native.Mathlib.Nat.{zero-mul, mul-lt-mul-of-pos-right, mul-le-mul-right, lt-of-mul-lt-mul-right, mul-comm, mul-assoc}
+use native.Mathlib.Nat.{zero-mul, mul-lt-mul-of-pos-right, mul-le-mul-right, lt-of-mul-lt-mul-right, mul-comm, eq-of-mul-eq-mul-right}
 use native.Mathlib.Omega.{arith}
 use lib.Dec.{T, ltb, ltb→lt, lt→ltb}
-use lib.IntN.{ℤ, pos, negsuc, negℤ, subℕ, _+ℤ_, _-ℤ_, _*ℤ_}
+use lib.IntN.{ℤ, pos, negsuc, negℤ, subℕ, _+ℤ_, _-ℤ_, _*ℤ_, *ℤ-negsuc}
 use lib.Signed.{ltZ}
 use borrow.Author.Tests.{lt-ltb, le-ltb}
 use Rattle.numbers.specs.Signs.{withSign}
@@ -98,3 +98,43 @@ times-lt x y k t = parts-lt x y (lt-of-mul-lt-mul-right k m)
 
 pub lt-trans : (x y z : ℤ) → T (ltZ x y) → T (ltZ y z) → T (ltZ x z)
 lt-trans x y z s t = parts-lt x z (omega (arith, lt-parts x y s, lt-parts y z t))
+
+-- the factors in another order
+pub swapped : (x : ℤ) (d f : ℕ) → x *ℤ pos d *ℤ pos f ≡ x *ℤ pos f *ℤ pos d
+swapped x d f = times-times x d f ∙ ap (λ (n : ℕ). x *ℤ pos n) (mul-comm d f) ∙ sym (times-times x f d)
+
+pub minus-times : (x : ℤ) (k : ℕ) → negℤ x *ℤ pos k ≡ negℤ (x *ℤ pos k)
+minus-times x k =
+    eq-parts (negℤ x *ℤ pos k) (negℤ (x *ℤ pos k))
+    (simp (up-times, down-times, up-neg, down-neg) (omega arith))
+
+pub gap-times : (x y : ℤ) (k : ℕ) → (x -ℤ y) *ℤ pos k ≡ x *ℤ pos k -ℤ y *ℤ pos k
+gap-times x y k = sum-times x (negℤ y) k ∙ ap (λ (z : ℤ). x *ℤ pos k +ℤ z) (minus-times y k)
+
+-- with a signed factor
+pub swapped-signed : (x n : ℤ) (k : ℕ) → x *ℤ n *ℤ pos k ≡ x *ℤ pos k *ℤ n
+swapped-signed x (pos m) k = swapped x m k
+swapped-signed x (negsuc m) k =
+    ap (λ (z : ℤ). z *ℤ pos k) (*ℤ-negsuc x m)
+    ∙ minus-times (x *ℤ pos (suc m)) k
+    ∙ ap negℤ (swapped x (suc m) k)
+    ∙ sym (*ℤ-negsuc (x *ℤ pos k) m)
+
+pub times-cancel : (x y : ℤ) (k : ℕ) → 0 < k → x *ℤ pos k ≡ y *ℤ pos k → x ≡ y
+times-cancel x y k h e =
+    eq-parts x y (eq-of-mul-eq-mul-right k h (up x + down y) (up y + down x) m)
+  where
+    m : (up x + down y) * k ≡ (up y + down x) * k
+    m = omega (arith, up-times x k, down-times x k, up-times y k, down-times y k, ap up e, ap down e)
+
+-- what is added to both is no matter
+pub sums-apart : (x y z : ℤ) → (x +ℤ z) -ℤ (y +ℤ z) ≡ x -ℤ y
+sums-apart x y z =
+    eq-parts ((x +ℤ z) -ℤ (y +ℤ z)) (x -ℤ y)
+    (omega (arith, sum-parts x z, sum-parts y z, sum-parts (x +ℤ z) (negℤ (y +ℤ z)), sum-parts x (negℤ y), up-neg (y +ℤ z), down-neg (y +ℤ z), up-neg y, down-neg y))
+
+-- what is added stands to 0 as the sum stands to the number
+pub grown : (x z : ℤ) → x -ℤ (x +ℤ z) ≡ negℤ z
+grown x z =
+    eq-parts (x -ℤ (x +ℤ z)) (negℤ z)
+    (omega (arith, sum-parts x z, sum-parts x (negℤ (x +ℤ z)), up-neg (x +ℤ z), down-neg (x +ℤ z), up-neg z, down-neg z))

@@ -12,8 +12,7 @@ use mir.ValLaws.{toZ-ofZ, sfits-le}
 use Rattle.beats.specs.declared.Beat.{Beat}
 use Rattle.numbers.specs.Divisor.{gcdOf}
 use Rattle.beats.specs.Beats.{over, lowest, newBeat}
-use Rattle.numbers.proofs.Divisor.{gcd-pos, gcd-le}
-use Rattle.numbers.proofs.Signs.{read-pos, mag-quot}
+use Rattle.numbers.proofs.Laws.{gcd-pos, gcd-le, read-pos, mag-quot}
 use Rattle.beats.proofs.Beat.new.Statement.{statement}
 use Rattle.beats.proofs.Beat.new.Tie as tie
 

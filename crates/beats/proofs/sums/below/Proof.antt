@@ -1,15 +1,10 @@
 -- Less is what the cross products' own order says (`less-is`).
-use mathlib.Core.Path.{_≡_, sym, ap, _∙_}
-use lib.IntN.{pos, _*ℤ_}
-use Rattle.numbers.proofs.Orders.{isLess, less-is}
-use Rattle.beats.specs.Sums.{orderOfBeats, belowBeat}
-use Rattle.beats.specs.declared.Beat.{Beat}
+use mathlib.Core.Path.{sym, ap, _∙_}
+use Rattle.numbers.proofs.Laws.{isLess}
+use Rattle.beats.proofs.Ordering.{below-is}
 use borrow.Author.Needs.{needs}
 use Rattle.beats.proofs.sums.below.Statement.{statement}
 use Rattle.beats.proofs.sums.below.Tie as tie
-
-below-is : (a b : Beat) → isLess (orderOfBeats a b) ≡ belowBeat a b
-below-is a b = less-is (a .num *ℤ pos (b .den)) (b .num *ℤ pos (a .den))
 
 order-requires : tie.Need-order-requires
 order-requires c κs = search needs

@@ -4,7 +4,7 @@ use lib.IntN.{_*ℤ_}
 use mir.Syntax.{w64}
 use mir.ValLaws.{toZ-ofZ}
 use Rattle.numbers.specs.Exacts.{valueOf}
-use Rattle.numbers.proofs.Exacts.{valued}
+use Rattle.numbers.proofs.Laws.{valued}
 use Rattle.beats.specs.Sums.{fitted}
 use borrow.Author.Needs.{needs}
 use Rattle.beats.proofs.sums.mul.Statement.{statement}

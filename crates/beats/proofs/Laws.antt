@@ -1,0 +1,16 @@
+-- What crates above may use of beats. They go by "accepted" and by the value, and unfold neither the test for 2 nor the reduction.
+
+-- `new` answers lowest terms and the same value; a beat is its own `new`; beats with one value are the same two numbers
+pub use Rattle.beats.proofs.Values.{new-is-beat, new-value, own, own-value, value-same, one-beat}
+pub use Rattle.beats.proofs.Refusing.{beat-above, beat-lowest}
+-- an accepted sum, difference or multiple is a beat and has the exact value
+pub use Rattle.beats.proofs.Values.{accepted-beat, accepted-value, sum-value, difference-value, multiple-value, scaled-value}
+-- refused by 2 exactly where the two numbers do not fit as they stand
+pub use Rattle.beats.proofs.Values.{accepted-fits, refused-unfit}
+pub use Rattle.beats.proofs.Fitted.{fit, unfit}
+-- the order is total and that of the exact values; equal beats are the same two numbers
+pub use Rattle.beats.proofs.Ordering.{below-is, order-same, order-exchanged, order-equal, below-trans, order-values}
+-- sums and multiples keep it
+pub use Rattle.beats.proofs.Ordering.{sum-order, sum-grows, scale-order}
+-- no two cases of an answer read alike
+pub use Rattle.beats.proofs.Readings.{beats-apart, orders-apart, floats-apart, frames-apart, steps-apart}

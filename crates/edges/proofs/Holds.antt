@@ -1,0 +1,10 @@
+-- Every edge of the table holds, by computing.
+use mathlib.Core.Path.{_≡_, refl}
+use Rattle.numbers.specs.Divisor.{gcdOf, remainders}
+use Rattle.beats.specs.Beats.{newBeat, lowest}
+use Rattle.beats.specs.Sums.{fitted}
+use Rattle.edges.specs.Edges.{table, answers, givens}
+
+pub holds : answers table ≡ givens table
+unfolding newBeat lowest gcdOf remainders fitted
+holds = refl

@@ -1,0 +1,75 @@
+-- Document 01's list "Both sides of each edge": the cases that it marks to be proved, as one table of questions and answers.
+-- proofs/Holds.antt has the one statement, that each question's definition gives the answer beside it.
+use mathlib.Core.List.{List, [], _∷_}
+use Prim.Native.Nat.{ℕ}
+use lib.IntN.{ℤ, pos, negsuc, negℤ}
+use Rattle.numbers.specs.declared.exact.Order.{Order}
+use Rattle.numbers.specs.declared.exact.Order.the-variants.{Less, Equal, Greater}
+use Rattle.numbers.specs.Answers.{Answer, accepted, refused}
+use Rattle.beats.specs.declared.Beat.{Beat}
+use Rattle.beats.specs.Beats.{newBeat}
+use Rattle.beats.specs.Sums.{addAnswer, orderAnswer}
+
+-- ---- questions
+
+pub data Question : Type 0 where
+  new : ℤ → ℕ → Question
+  add : Beat → Beat → Question
+  order : Beat → Beat → Question
+
+-- ---- answers: the values, as whole numbers
+
+abbrev pub read : {A : Type 0} → (A → List ℤ) → Answer A → Answer (List ℤ)
+read values (accepted a) = accepted (values a)
+read values (refused n facts) = refused n facts
+
+abbrev pub ofBeat : Beat → List ℤ
+ofBeat beat = beat .num ∷ pos (beat .den) ∷ []
+
+-- -1, 0 or 1
+abbrev pub ofOrder : Order → List ℤ
+ofOrder Less = negsuc 0 ∷ []
+ofOrder Equal = pos 0 ∷ []
+ofOrder Greater = pos 1 ∷ []
+
+abbrev pub answer : Question → Answer (List ℤ)
+answer (new num den) = accepted (ofBeat (newBeat num den))
+answer (add a b) = read ofBeat (addAnswer a b)
+answer (order a b) = read ofOrder (orderAnswer a b)
+
+-- ---- the table
+
+-- a question, and the answer that document 01 gives
+pub record Edge : Type 0 where
+  pub asked : Question
+  pub given : Answer (List ℤ)
+
+abbrev pub edge : Question → Answer (List ℤ) → Edge
+edge asked given = record { asked = asked; given = given }
+
+infixl 70 _//_
+abbrev pub _//_ : ℤ → ℕ → Beat
+num // den = record { num = num; den = den }
+
+abbrev pub minus : ℕ → ℤ
+minus n = negℤ (pos n)
+
+abbrev pub table : List Edge
+table =
+    edge (new (pos 6) 8) (accepted (ofBeat (pos 3 // 4)))
+    ∷ edge (new (pos 0) 7) (accepted (ofBeat (pos 0 // 1)))
+    ∷ edge (new (pos 5) 0) (accepted (ofBeat (pos 5 // 1)))
+    ∷ edge (add (pos 1 // 65536) (pos 1 // 65536)) (refused 2 [])
+    ∷ edge (add (pos 1 // 65535) (pos 1 // 65536)) (accepted (ofBeat (pos 131071 // 4294901760)))
+    ∷ edge (order (minus 1 // 2) (minus 1 // 3)) (accepted (ofOrder Less))
+    ∷ []
+
+-- ---- the statement
+
+abbrev pub answers : List Edge → List (Answer (List ℤ))
+answers [] = []
+answers (e ∷ rest) = answer (e .asked) ∷ answers rest
+
+abbrev pub givens : List Edge → List (Answer (List ℤ))
+givens [] = []
+givens (e ∷ rest) = e .given ∷ givens rest

@@ -1,0 +1,12 @@
+-- A contract that is an equation has one answer, also where the answer is read through a definition that reads no two cases alike.
+use mathlib.Core.Path.{_≡_, sym, _∙_}
+
+pub one-answer : {A : Type 0} {r s x : A} → r ≡ x → s ≡ x → r ≡ s
+one-answer p q = p ∙ sym q
+
+-- no two cases read alike
+abbrev pub Apart : {A B : Type 0} → (A → B) → Type 0
+Apart {A} read = (r s : A) → read r ≡ read s → r ≡ s
+
+pub one-reading : {A B : Type 0} (read : A → B) → Apart read → (r s : A) (x : B) → read r ≡ x → read s ≡ x → r ≡ s
+one-reading read apart r s x p q = apart r s (p ∙ sym q)

@@ -1,0 +1,18 @@
+-- What crates above may use of this one: they unfold none of its definitions.
+
+-- a contract that is an equation has one answer
+pub use Rattle.numbers.proofs.Answers.{one-answer, Apart, one-reading}
+-- the greatest common divisor divides both numbers, and all that divides both divides it
+pub use Rattle.numbers.proofs.Divisor.{gcd-left, gcd-right, gcd-greatest, gcd-zero, gcd-pos, gcd-le}
+-- what follows where it is 1
+pub use Rattle.numbers.proofs.Coprime.{gcd-times, gcd-over, gcd-of-zero, euclid, same-num, same-den}
+-- signs: what the machine reads back from a signed number's bits, and where an i64 stops
+pub use Rattle.numbers.proofs.Signs.{read-pos, mag-quot, unstopped, stopped-fits}
+pub use Rattle.numbers.proofs.Exacts.{abs-sign, sign-abs, abs-times, neg-times}
+-- a sign and two words are the number
+pub use Rattle.numbers.proofs.Exacts.{value-exact, valued}
+-- whole numbers with a sign, for `omega`: each by its part above zero and its part below
+pub use Rattle.numbers.proofs.Parts.{up, down, eq-parts, lt-parts, parts-lt, sum-parts, up-neg, down-neg, up-times, down-times}
+pub use Rattle.numbers.proofs.Parts.{times-times, sum-times, gap-times, swapped, swapped-signed, times-cancel, lt-times, times-lt, lt-trans, sums-apart, grown}
+-- the order of two numbers
+pub use Rattle.numbers.proofs.Orders.{isLess, less-is, equal-only, same-equal, turned, exchanged, order-minus, order-times}
