@@ -15,6 +15,7 @@ use lib.Ieee.Fits.{and-l, and-r, down-pos, round-is, round-fits}
 use lib.Ieee.Exact.{HasValue, round-exact}
 use lib.Ieee.Back.{round-whole, whole-unique}
 use Rattle.rounding.specs.Floats.{floorOf, wholeAbove, float0}
+use Rattle.rounding.proofs.Signs.{not-below}
 
 -- ---- the whole numbers next to n / d
 
@@ -164,11 +165,7 @@ up-large (fin false m e) F a b = kept-large binary64 false m e F (go (m * up e) 
     go n d p = omega arith
 
 no-sign : (m : ℕ) (e : ℤ) → lt (fin false m e) float0 ≡ true → ⊥
-unfolding lt
-no-sign m e a = go (m * up e) (down e) (ltb-true (m * up e * 1) (0 * down e) a)
-  where
-    go : (n d : ℕ) → n * 1 < 0 * d → ⊥
-    go n d h = omega arith
+no-sign m e a = true≢false (sym a ∙ not-below m e)
 
 pub room : (x : Float) → lt x float0 ≡ true → lt minus-end x ≡ true → toUnsigned 64 (neg x) + 1 < 2 ^ 64
 unfolding lt neg toUnsigned

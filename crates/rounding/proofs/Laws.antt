@@ -1,21 +1,22 @@
--- What a caller may lean on, each law in one place: of rounding, of casts at another width or sign, of picks and of words.
+-- What a caller may lean on, each law in one place: of rounding, of casts at another width or sign, of flooring, of picks and of words.
 use mathlib.Core.Path.{_≡_, refl, sym, _∙_}
 use mathlib.Core.Bool.{Bool, true, false, not, cond}
 use Prim.Native.Nat.{ℕ, _+_, _-_, _*_, _/_, _^_, _≤_, _<_, min}
 use lib.Dec.{T}
 use lib.IntN.{ℤ}
-use lib.Ieee.{Float, nan, fin, Format, up, down, hid, top, lt, le, neg, fits, isNan, ofBits, toBits, toUnsigned, toSigned}
+use lib.Ieee.{Float, nan, inf, fin, Format, up, down, hid, top, lt, le, neg, fits, isNan, ofBits, toBits, toUnsigned, toSigned}
 use lib.Ieee.Exact.{HasValue}
+use lib.Ieee.Positive.{positive}
 use lib.Ieee.Bits.{ofBits-toBits, toBits-ofBits}
 use Rattle.rounding.specs.Floats.{halfUp, roundAway, withoutSign, floorOf, maximum, clamp, float0}
 use Rattle.rounding.proofs.Nearest as by-nearest
-use Rattle.rounding.proofs.Nearest.{Nearest}
+pub use Rattle.rounding.proofs.Nearest.{Nearest}
 use Rattle.rounding.proofs.Signs as by-sign
-use Rattle.rounding.proofs.Signs.{stopped}
+pub use Rattle.rounding.proofs.Signs.{stopped}
 use Rattle.rounding.proofs.Flooring as by-part
 use Rattle.rounding.proofs.Picks as by-test
 use Rattle.rounding.proofs.Words as by-word
-use Rattle.rounding.proofs.Words.{plain, infWord}
+pub use Rattle.rounding.proofs.Words.{plain, infWord}
 
 -- ---- rounding
 
@@ -80,6 +81,10 @@ max-nan x = (by-test.max-nan-left x, by-test.max-nan-right x)
 -- a maximum is not below its second side
 pub max-not-below : (x y : Float) → lt (maximum x y) y ≡ false
 max-not-below = by-test.max-not-below
+
+-- with a second side that is finite and above zero it is finite and above zero, unless the first is infinity
+pub max-positive : (x y : Float) → T (positive y) → (x ≡ inf false → ⊥) → T (positive (maximum x y))
+max-positive = by-test.max-positive
 
 -- clamping keeps a NaN
 pub clamp-nan : (low high : Float) → clamp nan low high ≡ nan

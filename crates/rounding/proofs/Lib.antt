@@ -1,9 +1,9 @@
 pub mod Nan
+pub mod Picks
+pub mod Words
 pub mod Rounding
 pub mod Signs
 pub mod Nearest
-pub mod Picks
-pub mod Words
 pub mod Flooring
 pub mod Laws
 pub mod Cases

@@ -1,12 +1,37 @@
 -- A maximum and a clamp from the tests that a function makes: each test is one of the definition's own, so nothing is left but to put it in. Over no format.
 use mathlib.Core.Path.{_≡_, refl, sym}
 use mathlib.Core.Bool.{Bool, true, false, _||_, cond, true≢false}
-use native.Mathlib.Nat.{le-refl}
-use borrow.Author.Tests.{le-ltb}
-use Prim.Native.Nat.{_*_}
+use Prim.Native.Nat.{ℕ, _+_, _*_, _≤_, _<_}
+use native.Mathlib.Nat.{le-refl, lt-of-lt-of-le, mul-pos}
+use native.Mathlib.Omega.{arith}
+use borrow.Author.Tests.{le-ltb, lt-ltb, ltb-false}
+use lib.Dec.{T, ltb, ltb→lt, lt→ltb}
+use lib.IntN.{ℤ}
 use lib.Ieee.{Float, nan, inf, fin, up, down, lt, ne, isNan}
+use lib.Ieee.Fits.{up-pos, down-pos}
+use lib.Ieee.Positive.{positive, first-pos}
 use Rattle.rounding.specs.Floats.{maximum, clamp}
 use Rattle.rounding.proofs.Nan.{is-nan}
+
+-- ---- a NaN
+
+pub max-nan-left : (y : Float) → maximum nan y ≡ y
+unfolding maximum isNan lt
+max-nan-left y = refl
+
+pub max-nan-right : (x : Float) → maximum x nan ≡ x
+unfolding maximum isNan lt
+max-nan-right nan = refl
+max-nan-right (inf s) = refl
+max-nan-right (fin s m e) = refl
+
+pub clamp-nan : (low high : Float) → clamp nan low high ≡ nan
+unfolding clamp lt
+clamp-nan low nan = refl
+clamp-nan low (inf s) = refl
+clamp-nan low (fin s m e) = refl
+
+-- ---- from the tests
 
 module _ (x y : Float) where
   pub max-less : lt x y ≡ true → y ≡ maximum x y
@@ -51,16 +76,6 @@ not-below-itself (inf false) = refl
 not-below-itself (fin true m e) = le-ltb (m * up e * down e) (m * up e * down e) (le-refl (m * up e * down e))
 not-below-itself (fin false m e) = le-ltb (m * up e * down e) (m * up e * down e) (le-refl (m * up e * down e))
 
-pub max-nan-left : (y : Float) → maximum nan y ≡ y
-unfolding maximum isNan
-max-nan-left y = refl
-
-pub max-nan-right : (x : Float) → maximum x nan ≡ x
-unfolding maximum isNan lt
-max-nan-right nan = refl
-max-nan-right (inf s) = refl
-max-nan-right (fin s m e) = refl
-
 pub max-not-below : (x y : Float) → lt (maximum x y) y ≡ false
 unfolding maximum
 max-not-below x y = go (isNan x) (lt x y) refl
@@ -70,11 +85,26 @@ max-not-below x y = go (isNan x) (lt x y) refl
     go false true h = not-below-itself y
     go false false h = h
 
-pub clamp-nan : (low high : Float) → clamp nan low high ≡ nan
-unfolding clamp lt
-clamp-nan low nan = refl
-clamp-nan low (inf s) = refl
-clamp-nan low (fin s m e) = refl
+above-zero : (n : ℕ) (d e : ℤ) → T (ltb 0 n) → 0 < n * up d * down e
+above-zero n d e p = mul-pos (mul-pos (ltb→lt 0 n p) (up-pos d)) (down-pos e)
+
+pub max-positive : (x y : Float) → T (positive y) → (x ≡ inf false → ⊥) → T (positive (maximum x y))
+unfolding maximum isNan lt
+max-positive x nan p h = absurd p
+max-positive x (inf t) p h = absurd p
+max-positive x (fin true n d) p h = absurd p
+max-positive nan (fin false n d) p h = p
+max-positive (inf true) (fin false n d) p h = p
+max-positive (inf false) (fin false n d) p h = absurd (h refl)
+max-positive (fin true m e) (fin false n d) p h = rw (lt-ltb 0 (m * up e * down d + n * up d * down e) (go (m * up e * down d) (n * up d * down e) (above-zero n d e p))) p
+  where
+    go : (a b : ℕ) → 0 < b → 0 < a + b
+    go a b l = omega arith
+max-positive (fin false m e) (fin false n d) p h = by (ltb (m * up e * down d) (n * up d * down e)) (ltb-false (m * up e * down d) (n * up d * down e))
+  where
+    by : (b : Bool) → (b ≡ false → n * up d * down e ≤ m * up e * down d) → T (positive (cond b (fin false n d) (fin false m e)))
+    by true k = p
+    by false k = lt→ltb 0 m (first-pos m (up e) (first-pos (m * up e) (down d) (lt-of-lt-of-le (above-zero n d e p) (k refl))))
 
 pub clamp-within : (x low high : Float) → lt high low ≡ false → (lt (clamp x low high) low ≡ false) × (lt high (clamp x low high) ≡ false)
 unfolding clamp

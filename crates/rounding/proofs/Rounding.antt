@@ -25,7 +25,7 @@ half-same n d a c D C v =
     half-law n d D ∙ ap (λ (k : ℕ). (k + 1) / 2) (div-same (2 * n) d (2 * a) c D C (mul-assoc 2 n c ∙ ap (λ (k : ℕ). 2 * k) v ∙ sym (mul-assoc 2 a d))) ∙ sym (half-law a c C)
 
 -- the size of x is a / c
-pub rounded : (w : ℕ) (x : Float) (a c : ℕ) → 0 < c → Equals x a c → toUnsigned w (roundAway (withoutSign x)) ≡ min (halfUp a c) (2 ^ w - 1)
+rounded : (w : ℕ) (x : Float) (a c : ℕ) → 0 < c → Equals x a c → toUnsigned w (roundAway (withoutSign x)) ≡ min (halfUp a c) (2 ^ w - 1)
 unfolding toUnsigned roundAway withoutSign
 rounded w nan a c C v = absurd v
 rounded w (inf s) a c C v = absurd v
@@ -33,7 +33,7 @@ rounded w (fin s m e) a c C v =
     let k = halfUp (m * up e) (down e) in
     ap (λ (j : ℕ). min j (2 ^ w - 1)) (div-one (k * 1) ∙ mul-one k ∙ half-same (m * up e) (down e) a c (down-pos e) C v)
 
-pub rounded-inf : (w : ℕ) (s : Bool) → toUnsigned w (roundAway (withoutSign (inf s))) ≡ 2 ^ w - 1
+rounded-inf : (w : ℕ) (s : Bool) → toUnsigned w (roundAway (withoutSign (inf s))) ≡ 2 ^ w - 1
 unfolding toUnsigned roundAway withoutSign
 rounded-inf w s = refl
 
@@ -43,8 +43,8 @@ rounded-nan w = refl
 
 -- ---- a pattern's fields, over the format
 
--- what the exponent's field exponent and the digits fraction of a pattern say of the size of x
-pub data Shape (f : Format) (exponent fraction : ℕ) (x : Float) : Type 0 where
+-- what a pattern's two fields, the exponent and the digits behind the leading one, say of the size of x
+data Shape (f : Format) (exponent fraction : ℕ) (x : Float) : Type 0 where
   tiny : exponent ≡ 0 → Equals x (fraction * 2 ^ 0) (2 ^ low f) → Shape f exponent fraction x
   usual : (j : ℕ) → exponent ≡ suc j → Equals x ((hid f + fraction) * 2 ^ j) (2 ^ low f) → Shape f exponent fraction x
   endless : (s : Bool) → exponent ≡ ones f → x ≡ inf s → Shape f exponent fraction x
@@ -61,20 +61,36 @@ of-fields f s (suc j) fraction n = go (eqb (suc j) (ones f)) (eqb fraction 0) (e
     go false b h k = usual j refl (odd-val (prec f) s (hid f + fraction) j (low f))
 
 -- the fields of the pattern b
-abbrev pub Of : Format → ℕ → Float → Type 0
+abbrev Of : Format → ℕ → Float → Type 0
 Of f b x = T (not (isNan x)) → Shape f (b % top f / hid f) (b % hid f) x
 
 of-bits : (f : Format) (b : ℕ) → Of f b (ofBits f b)
 unfolding ofBits
 of-bits f b n = of-fields f (leb (top f) b) (b % top f / hid f) (b % hid f) n
 
-pub shape : (f : Format) (x : Float) → T (fits f x) → Of f (toBits f x) x
+shape : (f : Format) (x : Float) → T (fits f x) → Of f (toBits f x) x
 shape f x F = subst (λ (y : Float). Of f (toBits f x) y) (ofBits-toBits f x F) (of-bits f (toBits f x))
 
--- ---- the body's arithmetic, on the fields exponent and fraction
+-- ---- the body's arithmetic, on the two fields of an `f64`
 
 abbrev pub size : Float → ℕ
 size x = toUnsigned 64 (roundAway (withoutSign x))
+
+-- the size, where the digits have a leading one
+sized : (exponent fraction : ℕ) (x : Float) → 0 < exponent → exponent < 2047 → Shape binary64 exponent fraction x → size x ≡ min (halfUp ((2 ^ 52 + fraction) * 2 ^ (exponent - 1)) (2 ^ 1074)) (2 ^ 64 - 1)
+sized exponent fraction x a b (tiny z v) = absurd (go exponent a z)
+  where
+    go : (n : ℕ) → 0 < n → n ≡ 0 → ⊥
+    go n p q = omega arith
+sized exponent fraction x a b (endless s z v) = absurd (go exponent b z)
+  where
+    go : (n : ℕ) → n < 2047 → n ≡ 2047 → ⊥
+    go n p q = omega arith
+sized exponent fraction x a b (usual j z v) =
+    rounded 64 x ((2 ^ 52 + fraction) * 2 ^ j) (2 ^ 1074) (pow-pos 1074) v ∙ ap (λ (i : ℕ). min (halfUp ((2 ^ 52 + fraction) * 2 ^ i) (2 ^ 1074)) (2 ^ 64 - 1)) (go exponent j z)
+  where
+    go : (n i : ℕ) → n ≡ suc i → i ≡ n - 1
+    go n i q = omega arith
 
 -- below a half
 half-none : (a h : ℕ) → a < h → halfUp a (2 * h) ≡ 0
@@ -143,58 +159,40 @@ large exponent fraction x h (usual j z v) =
     go e i p q = omega arith
 large exponent fraction x h (endless s z v) = sym (ap size v ∙ rounded-inf 64 s)
 
--- exponent is from 1022 to 1075: the digits, doubled, are shifted down
+-- from 1022 to 1075: the digits, doubled, are shifted down
 down-to : (exponent fraction : ℕ) (x : Float) → fraction < 2 ^ 52 → 1022 ≤ exponent → exponent ≤ 1075 → Shape binary64 exponent fraction x → ((2 ^ 52 + fraction) * 2 / 2 ^ (1075 - exponent) + 1) / 2 ≡ size x
-down-to exponent fraction x l a b (tiny z v) = absurd (go exponent a z)
-  where
-    go : (e : ℕ) → 1022 ≤ e → e ≡ 0 → ⊥
-    go e p q = omega arith
-down-to exponent fraction x l a b (endless s z v) = absurd (go exponent b z)
-  where
-    go : (e : ℕ) → e ≤ 1075 → e ≡ 2047 → ⊥
-    go e p q = omega arith
-down-to exponent fraction x l a b (usual j z v) =
+down-to exponent fraction x l a b fields =
     let digits = 2 ^ 52 + fraction in
     let k = digits * 2 / 2 ^ (1075 - exponent) in
-    let is : halfUp (digits * 2 ^ j) (2 ^ 1074) ≡ (k + 1) / 2 = half-law (digits * 2 ^ j) (2 ^ 1074) (pow-pos 1074) ∙ ap (λ (i : ℕ). (i + 1) / 2) (doubled-down digits j 1074 (low exponent j b z) ∙ ap (λ (i : ℕ). digits * 2 / 2 ^ i) (by exponent j z)) in
-    sym (rounded 64 x (digits * 2 ^ j) (2 ^ 1074) (pow-pos 1074) v ∙ ap (λ (i : ℕ). min i (2 ^ 64 - 1)) is ∙ min-eq-left (room fraction k l (shr-le (digits * 2) (1075 - exponent))))
+    let is : halfUp (digits * 2 ^ (exponent - 1)) (2 ^ 1074) ≡ (k + 1) / 2 =
+    half-law (digits * 2 ^ (exponent - 1)) (2 ^ 1074) (pow-pos 1074) ∙ ap (λ (i : ℕ). (i + 1) / 2) (doubled-down digits (exponent - 1) 1074 (omega arith) ∙ ap (λ (i : ℕ). digits * 2 / 2 ^ i) (by exponent a))
+    in
+    sym (sized exponent fraction x (omega arith) (omega arith) fields ∙ ap (λ (i : ℕ). min i (2 ^ 64 - 1)) is ∙ min-eq-left (room fraction k l (shr-le (digits * 2) (1075 - exponent))))
   where
-    low : (e i : ℕ) → e ≤ 1075 → e ≡ suc i → i ≤ 1074
-    low e i p r = omega arith
-
-    by : (e i : ℕ) → e ≡ suc i → 1074 - i ≡ 1075 - e
-    by e i p = omega arith
+    by : (n : ℕ) → 1022 ≤ n → 1074 - (n - 1) ≡ 1075 - n
+    by n p = omega arith
 
     room : (u n : ℕ) → u < 2 ^ 52 → n ≤ (2 ^ 52 + u) * 2 → (n + 1) / 2 ≤ 2 ^ 64 - 1
     room u n p r = omega arith
 
--- exponent is from 1076 to 1086: the digits are shifted up
+-- from 1076 to 1086: the digits are shifted up
 up-to : (exponent fraction : ℕ) (x : Float) → fraction < 2 ^ 52 → 1075 < exponent → exponent ≤ 1086 → Shape binary64 exponent fraction x → (2 ^ 52 + fraction) * 2 ^ (exponent - 1075) ≡ size x
-up-to exponent fraction x l a b (tiny z v) = absurd (go exponent a z)
-  where
-    go : (e : ℕ) → 1075 < e → e ≡ 0 → ⊥
-    go e p q = omega arith
-up-to exponent fraction x l a b (endless s z v) = absurd (go exponent b z)
-  where
-    go : (e : ℕ) → e ≤ 1086 → e ≡ 2047 → ⊥
-    go e p q = omega arith
-up-to exponent fraction x l a b (usual j z v) =
+up-to exponent fraction x l a b fields =
     let digits = 2 ^ 52 + fraction in
     let k = digits * 2 ^ (exponent - 1075) in
-    let is : halfUp (digits * 2 ^ j) (2 ^ 1074) ≡ k = half-law (digits * 2 ^ j) (2 ^ 1074) (pow-pos 1074) ∙ ap (λ (i : ℕ). (i + 1) / 2) (doubled-up digits j 1074 (high exponent j a z) ∙ ap (λ (i : ℕ). 2 * (digits * 2 ^ i)) (by exponent j z)) ∙ even k in
-    sym (rounded 64 x (digits * 2 ^ j) (2 ^ 1074) (pow-pos 1074) v ∙ ap (λ (i : ℕ). min i (2 ^ 64 - 1)) is ∙ min-eq-left (le-ones 64 (lt-of-lt-of-le (shl-lt 53 (exponent - 1075) (with-lead fraction l)) (pow-mono (room exponent b)))))
+    let is : halfUp (digits * 2 ^ (exponent - 1)) (2 ^ 1074) ≡ k =
+    half-law (digits * 2 ^ (exponent - 1)) (2 ^ 1074) (pow-pos 1074) ∙ ap (λ (i : ℕ). (i + 1) / 2) (doubled-up digits (exponent - 1) 1074 (omega arith) ∙ ap (λ (i : ℕ). 2 * (digits * 2 ^ i)) (by exponent)) ∙ even k
+    in
+    sym (sized exponent fraction x (omega arith) (omega arith) fields ∙ ap (λ (i : ℕ). min i (2 ^ 64 - 1)) is ∙ min-eq-left (le-ones 64 (lt-of-lt-of-le (shl-lt 53 (exponent - 1075) (with-lead fraction l)) (pow-mono (room exponent b)))))
   where
-    high : (e i : ℕ) → 1075 < e → e ≡ suc i → 1074 ≤ i
-    high e i p r = omega arith
-
-    by : (e i : ℕ) → e ≡ suc i → i - 1074 ≡ e - 1075
-    by e i p = omega arith
+    by : (n : ℕ) → n - 1 - 1074 ≡ n - 1075
+    by n = omega arith
 
     even : (n : ℕ) → (2 * n + 1) / 2 ≡ n
     even n = omega arith
 
-    room : (e : ℕ) → e ≤ 1086 → 53 + (e - 1075) ≤ 64
-    room e p = omega arith
+    room : (n : ℕ) → n ≤ 1086 → 53 + (n - 1075) ≤ 64
+    room n p = omega arith
 
 -- ---- what the proof of `round_size` cites, of an x that the format holds and that is no NaN, and of its pattern
 

@@ -5,7 +5,7 @@ use mathlib.Core.Logic.{_⊎_, inl, inr, ⊎-map}
 use Prim.Native.Nat.{ℕ, zero, suc, _+_, _-_, _*_, _/_, _^_, _≤_, _<_, min}
 use native.Mathlib.Nat.{div-eq-of-lt, le-div-iff-mul-le, mul-pos, one-mul, mul-one, min-eq-right}
 use native.Mathlib.Omega.{arith}
-use borrow.Author.Tests.{ltb-true, ltb-false}
+use borrow.Author.Tests.{ltb-false, le-ltb}
 use lib.Dec.{T, ltb}
 use lib.IntN.{ℤ, pos, negℤ}
 use lib.Pow.{pow-pos}
@@ -13,6 +13,7 @@ use lib.Ieee.{Float, nan, inf, fin, up, down, lt, ne, neg, isNan, toUnsigned, to
 use lib.Ieee.Fits.{down-pos}
 use Rattle.numbers.specs.Signs.{toI64, withSign}
 use Rattle.rounding.specs.Floats.{halfUp, roundAway, withoutSign, maximum, float0}
+use Rattle.rounding.proofs.Picks.{max-nan-left}
 
 least : (a : ℕ) → 0 ≡ min 0 (a - 1)
 least a = omega arith
@@ -37,22 +38,22 @@ narrow v w h (fin false m e) = go (m * up e / down e) (2 ^ v) (2 ^ w) h
 -- ---- a sign
 
 -- s is the sign of y, or does not count: y is a NaN, or its whole part is 0
-abbrev pub Sign : Bool → Float → Type 0
+abbrev Sign : Bool → Float → Type 0
 Sign s nan = T true
 Sign s (inf t) = s ≡ t
 Sign s (fin t m e) = (s ≡ t) ⊎ (m * up e / down e ≡ 0)
 
 -- what the test `x < 0.0` says of a number
+pub not-below : (m : ℕ) (e : ℤ) → lt (fin false m e) float0 ≡ false
+unfolding lt
+not-below m e = le-ltb (m * up e * 1) (0 * down e) (go (m * up e) (down e))
+  where
+    go : (n d : ℕ) → 0 * d ≤ n * 1
+    go n d = omega arith
+
 below-zero : (t : Bool) (m : ℕ) (e : ℤ) → (lt (fin t m e) float0 ≡ t) ⊎ (m * up e ≡ 0)
 unfolding lt
-below-zero false m e = go (ltb (m * up e * 1) (0 * down e)) (ltb-true (m * up e * 1) (0 * down e))
-  where
-    never : (a d : ℕ) → a * 1 < 0 * d → ⊥
-    never a d h = omega arith
-
-    go : (b : Bool) → (b ≡ true → m * up e * 1 < 0 * down e) → (b ≡ false) ⊎ (m * up e ≡ 0)
-    go true h = absurd (never (m * up e) (down e) (h refl))
-    go false h = inl refl
+below-zero false m e = inl (not-below m e)
 below-zero true m e = go (ltb 0 (m * up e * 1 + 0 * down e)) (ltb-false 0 (m * up e * 1 + 0 * down e))
   where
     no-size : (a d : ℕ) → a * 1 + 0 * d ≤ 0 → a ≡ 0
@@ -239,6 +240,6 @@ module _ (w : ℕ) where
 
   pub max-zero : (x : Float) → toUnsigned w (maximum x float0) ≡ toUnsigned w x
   unfolding maximum isNan toUnsigned
-  max-zero nan = sym (least (2 ^ w))
+  max-zero nan = ap (λ (y : Float). toUnsigned w y) (max-nan-left float0) ∙ sym (least (2 ^ w))
   max-zero (inf s) = picked (inf s) (lt (inf s) float0) (below-none (inf s))
   max-zero (fin s m e) = picked (fin s m e) (lt (fin s m e) float0) (below-none (fin s m e))

@@ -25,8 +25,8 @@ withoutSign nan = nan
 withoutSign (inf s) = inf false
 withoutSign (fin s m e) = fin false m e
 
--- `x.round()`: the nearest whole number, halves away from zero. It is to be handed to a cast and to nothing else: its digits are not
--- reduced to the one way in which a format writes the number.
+-- `x.round()`: the nearest whole number, halves away from zero. It is there for a cast to look at, and is no float of a program: its digits
+-- are not reduced to the one way in which a format writes the number.
 unfoldable pub roundAway : Float → Float
 roundAway nan = nan
 roundAway (inf s) = inf s
@@ -41,7 +41,7 @@ floorOf f (fin true m e) = round f true (wholeAbove (m * up e) (down e)) 1
 
 -- ---- of several floats
 
--- `x.max(y)`: the larger. A maximum with a NaN gives its other side; of 0 and -0, which are as large, it gives x.
+-- `x.max(y)`: the larger. A maximum with a NaN gives its other side; of 0 and -0, which are as large, it gives x, where Rust leaves open which.
 unfoldable pub maximum : Float → Float → Float
 maximum x y = cond (isNan x || lt x y) y x
 

@@ -2,7 +2,6 @@
 // a width's ends, maximum, clamp, widening, and floats as words. Every function answers every
 // input, NaNs and infinities included, and its contract is one equation.
 ghost use mathlib.Core.Path.{_≡_};
-ghost use Prim.Native.Nat.{min};
 ghost use lib.Ieee as Ieee;
 ghost use lib.Ieee.{binary32, binary64};
 ghost use Rattle.rounding.specs.Floats.{roundAway, withoutSign, floorOf, maximum, clamp};
@@ -53,7 +52,7 @@ pub fn round_to_i64(x: f64) -> i64
 pub fn round_to_u32(x: f32) -> u32
     ensures { λ r. ⌜ r ≡ Ieee.toUnsigned 32 (roundAway x) ⌝ }
 {
-    narrowed(round_to_u64(widened(x)))
+    numbers::to_u32(round_to_u64(widened(x)))
 }
 
 // Casts: towards zero.
@@ -77,7 +76,7 @@ pub fn cut_to_u64(x: f64) -> u64
 pub fn cut_to_u32(x: f64) -> u32
     ensures { λ r. ⌜ r ≡ Ieee.toUnsigned 32 x ⌝ }
 {
-    narrowed(cut_to_u64(x))
+    numbers::to_u32(cut_to_u64(x))
 }
 
 // `x as i64`.
@@ -88,17 +87,6 @@ pub fn cut_to_i64(x: f64) -> i64
         numbers::signed(true, cut_to_u64(-x))
     } else {
         numbers::signed(false, cut_to_u64(x))
-    }
-}
-
-// n, stopped at the end of a u32.
-fn narrowed(n: u64) -> u32
-    ensures { λ r. ⌜ r ≡ min n 0xffff_ffff ⌝ }
-{
-    if n > 0xffff_ffff {
-        0xffff_ffff
-    } else {
-        n as u32
     }
 }
 

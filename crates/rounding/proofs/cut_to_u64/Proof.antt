@@ -1,8 +1,7 @@
--- `rounding::cut_to_u64` meets its contract.
--- Assumes nothing.
-use mathlib.Core.Path.{sym, ap, _∙_, subst}
+-- `rounding::cut_to_u64` meets its contract: between the ends it is the library's cut, whose terms are the two tests made, and outside of them an end.
+use mathlib.Core.Path.{sym, subst}
 use lib.Dec.{T}
-use lib.Ieee.{Float, ofBits, neg, toUnsigned}
+use lib.Ieee.{ofBits, neg}
 use Rattle.rounding.proofs.Nan.{is-nan}
 use Rattle.rounding.proofs.Signs.{cut-none, cut-all, cut-nan}
 use borrow.Author.Needs.{needs}

@@ -1,12 +1,10 @@
--- `rounding::floor` meets its contract.
--- Assumes nothing.
-use lib.Ieee.{toUnsigned}
+-- `rounding::floor` meets its contract: each way out is one law of `Flooring`, of the tests made on the way there.
 use mathlib.Core.Path.{_≡_, sym, ap, _∙_, subst}
 use mathlib.Core.Bool.{true, false}
 use Prim.Native.Nat.{ℕ, _+_, _^_, _<_}
 use lib.Dec.{T}
 use lib.IntN.{pos}
-use lib.Ieee.{Float, binary64, fits, lt, neg, ofBits, ofInt}
+use lib.Ieee.{Float, binary64, fits, lt, neg, ofBits, ofInt, toUnsigned}
 use Rattle.rounding.proofs.Flooring.{up-small, up-large, room, down-after, down-at, down-large, at-zero}
 use borrow.Author.Needs.{needs}
 use Rattle.rounding.proofs.floor.Statement.{statement}

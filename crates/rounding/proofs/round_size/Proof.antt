@@ -1,8 +1,7 @@
--- `rounding::round_size` meets its contract.
--- Assumes nothing.
+-- `rounding::round_size` meets its contract: each way out is one range of the exponent's field, and a law of `Rounding` says what the size is there.
 use mathlib.Core.Path.{sym, ap, _∙_, subst}
 use lib.Dec.{T}
-use lib.Ieee.{Float, binary64, fits, isNan}
+use lib.Ieee.{binary64, fits, isNan}
 use mathlib.Core.Bool.{not}
 use borrow.Author.Needs.{needs}
 use Rattle.rounding.proofs.Nan.{is-nan, no-nan}

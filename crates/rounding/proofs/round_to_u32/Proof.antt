@@ -12,12 +12,12 @@ widened-requires c κs = search needs
 round-to-u64-requires : tie.Need-round-to-u64-requires
 round-to-u64-requires c κs = search needs
 
-narrowed-requires : tie.Need-narrowed-requires
-narrowed-requires c κs = search needs
+to-u32-requires : tie.Need-to-u32-requires
+to-u32-requires c κs = search needs
 
 returns : tie.Need-returns
 returns c = cc (narrow 32 64 (lit≤ tt) (roundAway (c .before .before .before .args .x)))
 
 pub round-to-u32-spec : {M : Type 1} → statement M
 round-to-u32-spec =
-    tie.close (tie.spec widened-requires round-to-u64-requires narrowed-requires returns)
+    tie.close (tie.spec widened-requires round-to-u64-requires to-u32-requires returns)

@@ -1,0 +1,106 @@
+//! Questions 50 to 52: the cue call over laps, ends and full outputs, the line filler, and the range of lines.
+
+use super::maps::{self, Size};
+use super::meter::room;
+use super::rng::Rng;
+use super::transport;
+use super::write::Asked;
+use crate::answer::cues::by_laps;
+use crate::args::{Tempo, Transport};
+
+/// Lines in a span of frames, ascending, some of them equal; once in a while not ascending.
+fn lines(r: &mut Rng, size: Size, span: u64) -> Vec<u64> {
+    let count = if let Size::Huge(count) = size { count } else { r.below(9) as usize };
+    let mut lines: Vec<u64> = (0..count).map(|_| r.below(span.saturating_add(2).max(1))).collect();
+    lines.sort();
+    if count > 1 && r.once_in(4) {
+        let at = r.below(count as u64 - 1) as usize;
+        lines[at + 1] = lines[at];
+        lines.sort();
+    }
+    if count > 1 && r.once_in(16) {
+        let at = match r.below(3) {
+            0 => 0,
+            1 => count - 2,
+            _ => r.below(count as u64 - 1) as usize,
+        };
+        lines[at] = lines[at + 1].saturating_add(r.below(2));
+        lines[at + 1] = lines[at].saturating_sub(1);
+    }
+    lines
+}
+
+/// 50.
+fn cues(r: &mut Rng, size: Size) -> Asked {
+    let length = match r.below(6) {
+        0 => transport::length(r),
+        1 => r.below(4),
+        _ => r.below(400),
+    };
+    let mut t = transport::transport(r, length);
+    if r.once_in(2) {
+        t.state = 1;
+    }
+    let frames = match r.below(12) {
+        0 => r.below(2),
+        1 => u64::MAX - t.position,
+        2 => (u64::MAX - t.position).wrapping_add(1 + r.below(2)),
+        3 => r.u64(),
+        4 => 4090 + r.below(20),
+        5 => t.length.wrapping_sub(t.position).wrapping_add(r.below(3)).wrapping_sub(1),
+        6 => t.looped.map_or(0, |(_, end)| end.wrapping_sub(t.position)).wrapping_add(r.below(3)).wrapping_sub(1),
+        _ => r.below(600),
+    };
+    let mut lines = lines(r, size, t.length);
+    // beside the loop's own frames and the position
+    if let (Some((start, end)), Size::Small) = (t.looped, size)
+        && r.once_in(3)
+    {
+        lines.extend([start, end, end.saturating_sub(1), t.position, t.length]);
+        lines.sort();
+    }
+    let sound = crate::refusal::sound(&t).is_ok() && t.position.checked_add(frames).is_some() && lines.is_sorted();
+    let found =
+        if sound { by_laps(&t, frames, &lines, 30_000).map_or(r.below(40) as usize, |cues| cues.len()) } else { 3 };
+    Asked::default().transport(&t).u64(frames).u32(room(r, found, 2)).longs(lines.into_iter())
+}
+
+/// 51.
+fn fill(r: &mut Rng, size: Size) -> Asked {
+    let length = transport::length(r);
+    let t: Transport = transport::transport(r, length);
+    let (room, meter, tempo) = match size {
+        Size::Huge(count) if r.once_in(2) => {
+            (count as u32 + r.pick(&[0, 0, 3]), maps::meter(r, Size::Small), Tempo::default())
+        }
+        Size::Huge(_) => (r.below(6) as u32, Vec::new(), maps::tempo(r, size)),
+        Size::Small => (
+            r.below(40) as u32,
+            maps::meter(r, size),
+            if r.once_in(2) { Tempo::default() } else { maps::tempo(r, size) },
+        ),
+    };
+    Asked::default().transport(&t).u32(room).words(&meter).tempo(&tempo)
+}
+
+/// 52.
+fn range(r: &mut Rng, size: Size) -> Asked {
+    let span = if r.once_in(6) { u64::MAX } else { r.pick(&[4, 10, 400]) };
+    let lines = lines(r, size, span);
+    let mut edge = || match r.below(4) {
+        0 => r.u64(),
+        1 => r.below(span.saturating_add(3)),
+        _ if lines.is_empty() => r.below(5),
+        _ => r.pick(&lines).wrapping_add(r.below(3)).wrapping_sub(1),
+    };
+    let (start, end) = (edge(), edge());
+    Asked::default().u64(start).u64(end).longs(lines.into_iter())
+}
+
+pub fn question(op: u32, r: &mut Rng, size: Size) -> Asked {
+    match op {
+        0x50 => cues(r, size),
+        0x51 => fill(r, size),
+        _ => range(r, size),
+    }
+}

@@ -1,0 +1,3 @@
+//! The part of the runtime that stands in docs/src.
+
+pub mod transport;
