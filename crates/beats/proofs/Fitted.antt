@@ -9,7 +9,7 @@ use lib.Dec.{leb, lit<}
 use lib.IntN.{ℤ, pos, _*ℤ_}
 use borrow.Author.Tests.{le-leb, lt-leb}
 use Rattle.numbers.specs.declared.exact.Exact.{Exact}
-use Rattle.numbers.specs.Answers.{Answer, accepted, refused}
+use Rattle.numbers.specs.Answers.{accepted, refused}
 use Rattle.numbers.specs.Signs.{inI64, toI64}
 use Rattle.numbers.specs.Exacts.{valueOf, exactOf}
 use Rattle.numbers.proofs.Laws.{unstopped, valued}

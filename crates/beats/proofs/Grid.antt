@@ -1,11 +1,10 @@
 -- A beat in lowest terms lies on the grid exactly where its denominator divides the steps a beat (`euclid`).
-use mathlib.Core.Path.{_≡_, refl, sym, ap, _∙_}
+use mathlib.Core.Path.{_≡_, refl, sym, ap}
 use mathlib.Core.Bool.{Bool, true, false, cond}
-use mathlib.Core.List.{List, [], _∷_}
+use mathlib.Core.List.{[], _∷_}
 use Prim.Native.Nat.{ℕ, min, _*_, _/_, _%_, _<_}
 use native.Mathlib.Nat.{dvd-of-mod-eq-zero, mod-eq-zero-of-dvd, dvd-mul-left-of-dvd, mul-div-assoc}
 use native.Mathlib.Omega.{arith}
-use lib.Dec.{eqb}
 use lib.IntN.{ℤ, pos, negsuc, natAbs}
 use borrow.Author.Tests.{eq-eqb, ne-eqb}
 use Rattle.numbers.specs.Answers.{Answer, accepted, refused}

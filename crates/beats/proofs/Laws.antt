@@ -2,6 +2,8 @@
 
 -- `new` answers lowest terms and the same value; a beat is its own `new`; beats with one value are the same two numbers
 pub use Rattle.beats.proofs.Values.{new-is-beat, new-value, own, own-value, value-same, one-beat}
+-- 0 over any number is 0/1
+pub use Rattle.beats.proofs.Lowest.{nothing-is}
 pub use Rattle.beats.proofs.Refusing.{beat-above, beat-lowest}
 -- an accepted sum, difference or multiple is a beat and has the exact value
 pub use Rattle.beats.proofs.Values.{accepted-beat, accepted-value, sum-value, difference-value, multiple-value, scaled-value}

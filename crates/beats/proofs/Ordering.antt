@@ -1,24 +1,24 @@
 -- The order of beats is that of their exact values: total, and kept by adding one beat to both and by a factor above 0.
 use mathlib.Core.Path.{_≡_, refl, sym, ap, _∙_, subst}
 use mathlib.Core.Bool.{Bool, true, false}
-use Prim.Native.Nat.{ℕ, zero, suc, _*_, _<_}
+use Prim.Native.Nat.{ℕ, _*_, _<_}
 use native.Mathlib.Nat.{mul-pos, mul-comm, mul-assoc}
 use native.Mathlib.Omega.{arith}
 use lib.Dec.{T}
 use lib.IntN.{ℤ, pos, negℤ, _+ℤ_, _-ℤ_, _*ℤ_, +ℤ-idl, zero-*ℤ}
 use lib.Signed.{ltZ}
 use Rattle.numbers.specs.declared.exact.Order.{Order}
-use Rattle.numbers.specs.declared.exact.Order.the-variants.{Less, Equal, Greater}
-use Rattle.numbers.specs.Answers.{Answer, accepted, refused}
+use Rattle.numbers.specs.declared.exact.Order.the-variants.{Equal}
+use Rattle.numbers.specs.Answers.{accepted}
 use Rattle.numbers.specs.Exacts.{orderOf}
-use Rattle.numbers.proofs.Laws.{gap-times, lt-trans, sums-apart, grown, isLess, less-is, equal-only, same-equal, turned, exchanged, order-minus, order-times}
+use Rattle.numbers.proofs.Laws.{gap-times, lt-trans, sums-apart, grown, isLess, less-is, equal-only, same-equal, turned, exchanged, order-times}
 use Rattle.beats.specs.declared.Beat.{Beat}
 use Rattle.beats.specs.Beats.{isBeat, wholeBeat}
 use Rattle.beats.specs.Sums.{addBeats, mulBeat, orderOfBeats, belowBeat}
 use Rattle.beats.specs.Values.{HasValue}
 use Rattle.beats.proofs.Lowest.{same-beat}
 use Rattle.beats.proofs.Refusing.{beat-above, beat-lowest}
-use Rattle.beats.proofs.Values.{cross, own-value, value-same, sum-value, scaled-value, accepted-beat}
+use Rattle.beats.proofs.Values.{cross, own-value, sum-value, scaled-value, accepted-beat}
 
 -- ---- a total order
 

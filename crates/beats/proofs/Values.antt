@@ -3,16 +3,15 @@ use mathlib.Core.Path.{_≡_, refl, sym, ap, _∙_, subst}
 use mathlib.Core.Bool.{Bool, true, false, cond, _&&_}
 use mathlib.Core.List.{List, []}
 use Prim.Native.Nat.{ℕ, max, _*_, _<_}
-use native.Mathlib.Nat.{mul-pos, mul-comm, mul-assoc, mul-one}
+use native.Mathlib.Nat.{mul-pos, mul-comm, mul-one}
 use native.Mathlib.Omega.{arith}
-use lib.Dec.{ltb, eqb}
 use lib.IntN.{ℤ, pos, natAbs, _+ℤ_, _-ℤ_, _*ℤ_}
 use borrow.Author.Tests.{lt-ltb, eq-eqb}
-use Rattle.numbers.specs.Answers.{Answer, accepted, refused}
+use Rattle.numbers.specs.Answers.{accepted, refused}
 use Rattle.numbers.specs.Divisor.{gcdOf}
 use Rattle.numbers.proofs.Laws.{times-times, swapped, swapped-signed, sum-times, gap-times, times-cancel}
 use Rattle.beats.specs.declared.Beat.{Beat}
-use Rattle.beats.specs.Beats.{newBeat, isBeat, wholeBeat}
+use Rattle.beats.specs.Beats.{newBeat, isBeat}
 use Rattle.beats.specs.Sums.{fits, fitted, addBeats, subBeats, mulBeat}
 use Rattle.beats.specs.Values.{HasValue}
 use Rattle.beats.proofs.Lowest.{lowest-terms, den-pos, same-value, stays, same-beat}

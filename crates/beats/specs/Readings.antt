@@ -1,6 +1,6 @@
 -- Each case of the answers, in the numbers of document 01.
 use Prim.Native.Nat.{ℕ}
-use mathlib.Core.List.{List, [], _∷_}
+use mathlib.Core.List.{[], _∷_}
 use lib.Ieee.{Float}
 use Rattle.numbers.specs.declared.exact.Order.{Order}
 use Rattle.numbers.specs.Answers.{Answer, accepted, refused}

@@ -1,5 +1,5 @@
 -- A contract that is an equation has one answer, also where the answer is read through a definition that reads no two cases alike.
-use mathlib.Core.Path.{_≡_, sym, _∙_}
+use mathlib.Core.Path.{_≡_, sym, ap, _∙_}
 
 pub one-answer : {A : Type 0} {r s x : A} → r ≡ x → s ≡ x → r ≡ s
 one-answer p q = p ∙ sym q
@@ -10,3 +10,7 @@ Apart {A} read = (r s : A) → read r ≡ read s → r ≡ s
 
 pub one-reading : {A B : Type 0} (read : A → B) → Apart read → (r s : A) (x : B) → read r ≡ x → read s ≡ x → r ≡ s
 one-reading read apart r s x p q = apart r s (p ∙ sym q)
+
+-- cases that can be told from their reading are apart
+pub apart-by : {A B : Type 0} (read : A → B) (back : B → A) → ((r : A) → back (read r) ≡ r) → Apart read
+apart-by read back same r s e = sym (same r) ∙ ap back e ∙ same s

@@ -1,5 +1,5 @@
 -- Numbers with no common factor: what follows from a greatest common divisor of 1.
-use mathlib.Core.Path.{_≡_, refl, sym, ap, _∙_, subst}
+use mathlib.Core.Path.{_≡_, sym, ap, _∙_, subst}
 use Prim.Native.Nat.{ℕ, zero, suc, one, _+_, _*_, _/_, _%_, _<_, _∣_}
 use native.Mathlib.Nat.{mod-lt, zero-mod, zero-lt-suc, one-mul, zero-mul, mul-one, div-add-mod', mul-lt-mul-of-pos-right, dvd-mul-left, dvd-mul-right, dvd-antisymm, eq-of-mul-eq-mul-right, mul-dvd-mul-left, dvd-of-mul-dvd-mul-left, mul-div-cancel', eq-one-of-dvd-one}
 use native.Mathlib.Omega.{arith}

@@ -1,5 +1,5 @@
 -- Numbers as a sign and two words: their laws over ℤ. Assumes nothing.
-use mathlib.Core.Path.{_≡_, refl, sym, ap, _∙_, subst}
+use mathlib.Core.Path.{_≡_, refl, sym, ap, _∙_}
 use mathlib.Core.Bool.{Bool, true, false, not, Bool·beq}
 use Prim.Native.Nat.{ℕ, zero, suc, _+_, _-_, _*_, _<_, _≤_, _^_, min}
 use native.Mathlib.Nat.{mul-zero, zero-add, zero-mul, mul-le-mul, add-le-add, lt-of-le-of-lt, le-of-eq, le-trans, le-of-suc-le-suc}
@@ -36,11 +36,6 @@ neg-sign false n f = refl
 neg-zero : (b : Bool) → isNeg (withSign b 0) ≡ false
 neg-zero true = refl
 neg-zero false = refl
-
-pub opposite : (b : Bool) (n : ℕ) → withSign (not b) n ≡ negℤ (withSign b n)
-opposite true zero = refl
-opposite true (suc n) = refl
-opposite false n = refl
 
 -- ---- made of a flag and two words
 
@@ -94,7 +89,7 @@ product-sign (negsuc a) true (suc v) = refl
 product-sign (negsuc a) false v = refl
 
 -- the product with a negative number
-times-neg : (x : ℤ) (v : ℕ) → x *ℤ withSign true v ≡ negℤ (x *ℤ pos v)
+pub times-neg : (x : ℤ) (v : ℕ) → x *ℤ withSign true v ≡ negℤ (x *ℤ pos v)
 times-neg (pos a) zero = rw (mul-zero a)
 times-neg (pos a) (suc v) = refl
 times-neg (negsuc a) zero = rw (mul-zero (suc a))
@@ -184,9 +179,6 @@ valued e z p = ap valueOf p ∙ value-exact z
 -- r is worked out of two numbers that are known
 pub worked : {A : Type 0} (op : ℤ → ℤ → A) (x y : Exact) (r : A) (a b : ℤ) → x ≡ exactOf a → y ≡ exactOf b → r ≡ op (valueOf x) (valueOf y) → r ≡ op a b
 worked op x y r a b p q h = h ∙ (λ i. op (valued x a p i) (valued y b q i))
-
-pub minus-product : (x : Exact) (z : ℤ) (v : ℕ) → x ≡ exactOf (z *ℤ withSign true v) → x ≡ exactOf (negℤ (z *ℤ pos v))
-minus-product x z v e = e ∙ ap exactOf (times-neg z v)
 
 pub sign-abs-of : (z : ℤ) (b : Bool) (n : ℕ) → b ≡ isNeg z → n ≡ natAbs z → withSign b n ≡ z
 sign-abs-of z b n p q = (λ i. withSign (p i) (q i)) ∙ sign-abs z

@@ -1,7 +1,7 @@
 -- What crates above may use of this one: they unfold none of its definitions.
 
 -- a contract that is an equation has one answer
-pub use Rattle.numbers.proofs.Answers.{one-answer, Apart, one-reading}
+pub use Rattle.numbers.proofs.Answers.{one-answer, Apart, one-reading, apart-by}
 -- the greatest common divisor divides both numbers, and all that divides both divides it
 pub use Rattle.numbers.proofs.Divisor.{gcd-left, gcd-right, gcd-greatest, gcd-zero, gcd-pos, gcd-le}
 -- what follows where it is 1

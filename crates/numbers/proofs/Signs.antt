@@ -5,11 +5,11 @@ use Prim.Native.Nat.{ℕ, zero, suc, _+_, _-_, _<_, _≤_, _^_, _/_, min}
 use native.Mathlib.Omega.{arith}
 use lib.IntN.{ℤ, pos, negsuc, negℤ, natAbs, _-ℤ_}
 use lib.Dec.{T, leb, leb→le, leb·suc-suc}
-use lib.Signed.{mag, ltZ, nonNeg, quotZ}
+use lib.Signed.{mag, ltZ, quotZ}
 use native.Mathlib.Nat.{div-le-self}
 use borrow.Author.Tests.{le-ltb}
 use mir.Syntax.{w64}
-use mir.Val.{SFits, Fits, toZ, ofZ}
+use mir.Val.{SFits, toZ, ofZ}
 use mir.ValLaws.{toZ-ofZ}
 use Rattle.numbers.specs.Signs.{isNeg, withSign, inI64, toI64, mostOf}
 

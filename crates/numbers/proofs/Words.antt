@@ -1,7 +1,7 @@
 -- Numbers of two digits to any base m: sums, differences, the order, and products by columns. Assumes nothing.
 -- The base is a variable, since `omega` reads no number of more than 38 digits: the proofs apply these at 2 ^ 64.
 use mathlib.Core.Path.{_≡_, refl, sym, ap, _∙_}
-use Prim.Native.Nat.{ℕ, suc, _+_, _-_, _*_, _/_, _%_, _^_, _<_, _≤_}
+use Prim.Native.Nat.{ℕ, _+_, _-_, _*_, _/_, _%_, _^_, _<_, _≤_}
 use native.Mathlib.Nat.{mul-le-mul, mul-le-mul-right, lt-of-mul-lt-mul-right, lt-of-le-of-lt, div-add-mod', le-of-suc-le-suc}
 use native.Mathlib.Numerals.{add-one}
 use native.Mathlib.Omega.{arith}
@@ -9,7 +9,6 @@ use lib.Arith.{digits-div, digits-mod}
 use lib.Dec.{ltb}
 use mathlib.Core.Bool.{Bool, true, false}
 use borrow.Author.Tests.{lt-ltb, le-ltb, ltb-true, ltb-false}
-use Rattle.numbers.specs.declared.exact.Wide.{Wide}
 use Rattle.numbers.specs.Exacts.{sizeOf, wideOf}
 
 -- two words are the words of a number

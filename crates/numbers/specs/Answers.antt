@@ -1,6 +1,6 @@
 -- What a call answers, in the numbers of document 01. Every crate reads its enums through this.
 use Prim.Native.Nat.{ℕ}
-use mathlib.Core.List.{List, [], _∷_}
+use mathlib.Core.List.{List}
 
 -- accepted, with its values; or refused, by a number and the facts that go with it (none but for 7: what, place, value)
 pub data Answer (A : Type 0) : Type 0 where

@@ -1,5 +1,4 @@
 -- Whole numbers past 64 bits: two words, and a sign with two words.
-use mathlib.Core.Bool.{Bool}
 use Prim.Native.Nat.{ℕ, zero, suc, _+_, _*_, _/_, _%_, _^_}
 use lib.IntN.{ℤ, pos, negsuc, natAbs}
 use Rattle.numbers.specs.declared.exact.Wide.{Wide}

@@ -214,18 +214,25 @@ impl Exact {
         }
     }
 
-    // a * b + c * d. Two such products never pass two words.
+    // a * b + c * d, or a * b - c * d where neg is set. Two such products never pass two words.
+    fn of_products(a: i64, b: u64, c: i64, neg: bool, d: u64) -> Exact
+        ensures { λ r. ⌜ r ≡ exactOf (a *ℤ pos b +ℤ c *ℤ withSign neg d) ⌝ }
+    {
+        Exact::times(a, false, b).plus(Exact::times(c, neg, d))
+    }
+
+    // a * b + c * d.
     pub fn sum_of_products(a: i64, b: u64, c: i64, d: u64) -> Exact
         ensures { λ r. ⌜ r ≡ exactOf (a *ℤ pos b +ℤ c *ℤ pos d) ⌝ }
     {
-        Exact::times(a, false, b).plus(Exact::times(c, false, d))
+        Exact::of_products(a, b, c, false, d)
     }
 
     // a * b - c * d.
     pub fn difference_of_products(a: i64, b: u64, c: i64, d: u64) -> Exact
         ensures { λ r. ⌜ r ≡ exactOf (a *ℤ pos b -ℤ c *ℤ pos d) ⌝ }
     {
-        Exact::times(a, false, b).plus(Exact::times(c, true, d))
+        Exact::of_products(a, b, c, true, d)
     }
 
     // Where self stands to b.

@@ -1,7 +1,7 @@
 -- Past the test for 1 the beat is in lowest terms, so the grid's remainder alone says whether it lies on a step.
 use mathlib.Core.Path.{_≡_, sym, ap, _∙_}
 use mathlib.Core.Bool.{true}
-use Prim.Native.Nat.{ℕ, max, min, _*_, _/_, _<_}
+use Prim.Native.Nat.{ℕ, min, _*_, _/_}
 use native.Mathlib.Nat.{div-le-self}
 use native.Mathlib.Omega.{arith}
 use lib.IntN.{natAbs}

@@ -1,5 +1,5 @@
 -- Each call makes b smaller, and the definition makes the same step (`gcd-step`).
-use mathlib.Core.Path.{_≡_, sym, ap, _∙_}
+use mathlib.Core.Path.{sym, ap, _∙_}
 use native.Mathlib.Nat.{mod-lt}
 use Rattle.numbers.proofs.Divisor.{gcd-zero, gcd-one, gcd-step}
 use Rattle.numbers.specs.Divisor.{gcdOf}

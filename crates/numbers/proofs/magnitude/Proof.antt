@@ -1,9 +1,7 @@
 -- `beat::magnitude` meets its contract. Assumes nothing.
 use borrow.Author.Needs.{needs}
-use mathlib.Core.Path.{_≡_, sym, ap, _∙_}
-use Prim.Native.Nat.{ℕ, _+_, _<_, _^_}
+use mathlib.Core.Path.{sym}
 use native.Mathlib.Omega.{arith}
-use lib.IntN.{natAbs}
 use Rattle.numbers.proofs.Signs.{flipped, flipped-read, neg-abs, pos-read}
 use Rattle.numbers.proofs.magnitude.Statement.{statement}
 use Rattle.numbers.proofs.magnitude.Tie as tie

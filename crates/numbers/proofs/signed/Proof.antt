@@ -1,9 +1,8 @@
 -- The size, less one where the number is below zero, is stopped before the machine's bits are made of it.
 use borrow.Author.Needs.{needs}
-use mathlib.Core.Path.{_≡_, sym, ap, _∙_}
-use Prim.Native.Nat.{ℕ, _<_, _^_}
+use mathlib.Core.Path.{sym, ap, _∙_}
+use Prim.Native.Nat.{_<_, _^_}
 use native.Mathlib.Omega.{arith}
-use lib.IntN.{ℤ, negsuc}
 use mathlib.Core.Bool.{Bool}
 use mir.Syntax.{w64}
 use mir.ValLaws.{toZ-ofZ}

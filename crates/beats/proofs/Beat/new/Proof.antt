@@ -1,6 +1,6 @@
 -- The divisor is not 0 and at most the denominator, so both quotients fit, and they are the definition's.
 use borrow.Author.Needs.{needs}
-use mathlib.Core.Path.{_≡_, refl, sym, ap, _∙_}
+use mathlib.Core.Path.{_≡_, ap, _∙_}
 use Prim.Native.Nat.{ℕ, max, _<_, _≤_, _^_, _/_}
 use native.Mathlib.Nat.{div-le-self}
 use native.Mathlib.Omega.{arith}
@@ -9,9 +9,8 @@ use lib.Signed.{quotZ}
 use mir.Syntax.{w64}
 use mir.Val.{SFits, toZ, ofZ}
 use mir.ValLaws.{toZ-ofZ, sfits-le}
-use Rattle.beats.specs.declared.Beat.{Beat}
 use Rattle.numbers.specs.Divisor.{gcdOf}
-use Rattle.beats.specs.Beats.{over, lowest, newBeat}
+use Rattle.beats.specs.Beats.{lowest, newBeat}
 use Rattle.numbers.proofs.Laws.{gcd-pos, gcd-le, read-pos, mag-quot}
 use Rattle.beats.proofs.Beat.new.Statement.{statement}
 use Rattle.beats.proofs.Beat.new.Tie as tie

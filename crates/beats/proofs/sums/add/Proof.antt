@@ -1,5 +1,5 @@
 -- The numerator of the sum is known exactly, and the denominators' product too.
-use mathlib.Core.Path.{_≡_, ap, _∙_}
+use mathlib.Core.Path.{_∙_}
 use lib.IntN.{_+ℤ_}
 use mir.Syntax.{w64}
 use mir.ValLaws.{toZ-ofZ}

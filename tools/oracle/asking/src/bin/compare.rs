@@ -48,8 +48,7 @@ fn shown(line: &[u8], is: bool) -> String {
 /// For each op how often each first number was answered; questions that are cut or too large stand under none.
 type Table = BTreeMap<Option<u32>, BTreeMap<String, u64>>;
 
-fn print_table(table: &Table) {
-    let mut out = io::stdout().lock();
+fn print_table(table: &Table, out: &mut impl Write) -> io::Result<()> {
     let mut columns: Vec<String> = table.values().flat_map(|row| row.keys().cloned()).collect();
     columns.sort_by_key(|name| (u64::from_str_radix(name, 16).unwrap_or(u64::MAX), name.clone()));
     columns.dedup();
@@ -60,19 +59,21 @@ fn print_table(table: &Table) {
         .collect();
     let mut print = |first: &str, call: &str, all: &str, counts: &[String]| {
         let cells: String = counts.iter().map(|count| format!(" {count:>8}")).collect();
-        let _ = writeln!(out, "{first:>4}  {call:<26} {all:>9} {cells}");
+        writeln!(out, "{first:>4}  {call:<26} {all:>9} {cells}")
     };
-    print("op", "call", "questions", &heads);
+    print("op", "call", "questions", &heads)?;
     for (number, row) in table {
         let name = number.and_then(form::find).map_or("(none)", |op| op.name);
         let first = number.map_or("-".to_string(), |number| format!("{number:02x}"));
         let counts: Vec<String> =
             columns.iter().map(|column| row.get(column).map_or(".".to_string(), u64::to_string)).collect();
-        print(&first, name, &row.values().sum::<u64>().to_string(), &counts);
+        print(&first, name, &row.values().sum::<u64>().to_string(), &counts)?;
     }
+    Ok(())
 }
 
 fn compare(questions: &str, first: &str, second: &str) -> io::Result<bool> {
+    let mut out = io::stdout().lock();
     let mut questions = Questions::new(open(questions)?);
     let (mut a, mut b) = (Lines::open(first)?, Lines::open(second)?);
     let (mut line_a, mut line_b) = (Vec::new(), Vec::new());
@@ -89,16 +90,12 @@ fn compare(questions: &str, first: &str, second: &str) -> io::Result<bool> {
         if !is_a || !is_b || line_a != line_b {
             differ += 1;
             if differ == 1 {
-                println!("question {asked} (the first is 1) is answered in two ways:");
-                println!(
-                    "  {}",
-                    op.map_or("a question that is cut or too large".to_string(), |op| words::tell(
-                        op,
-                        &questions.words
-                    ))
-                );
-                println!("  A: {}", shown(&line_a, is_a));
-                println!("  B: {}", shown(&line_b, is_b));
+                writeln!(out, "question {asked} (the first is 1) is answered in two ways:")?;
+                let told =
+                    op.map_or("a question that is cut or too large".into(), |op| words::tell(op, &questions.words));
+                writeln!(out, "  {told}")?;
+                writeln!(out, "  A: {}", shown(&line_a, is_a))?;
+                writeln!(out, "  B: {}", shown(&line_b, is_b))?;
             }
         }
         let number = String::from_utf8_lossy(line_a.split(|c| *c == b' ').next().unwrap_or(b"")).into_owned();
@@ -108,11 +105,11 @@ fn compare(questions: &str, first: &str, second: &str) -> io::Result<bool> {
     let (more_a, more_b) = (a.next(&mut line_a)?, b.next(&mut line_b)?);
     for (more, name) in [(more_a, "A"), (more_b, "B")] {
         if more {
-            println!("{name} has more lines than there are questions");
+            writeln!(out, "{name} has more lines than there are questions")?;
         }
     }
-    print_table(&table);
-    println!("{asked} questions, {differ} answered in two ways");
+    print_table(&table, &mut out)?;
+    writeln!(out, "{asked} questions, {differ} answered in two ways")?;
     Ok(differ == 0 && !more_a && !more_b)
 }
 

@@ -10,7 +10,7 @@ use crate::args::{Tempo, Transport};
 
 /// Lines in a span of frames, ascending, some of them equal; once in a while not ascending.
 fn lines(r: &mut Rng, size: Size, span: u64) -> Vec<u64> {
-    let count = if let Size::Huge(count) = size { count } else { r.below(9) as usize };
+    let count = if let Size::Huge(count, _) = size { count } else { r.below(9) as usize };
     let mut lines: Vec<u64> = (0..count).map(|_| r.below(span.saturating_add(2).max(1))).collect();
     lines.sort();
     if count > 1 && r.once_in(4) {
@@ -18,7 +18,7 @@ fn lines(r: &mut Rng, size: Size, span: u64) -> Vec<u64> {
         lines[at + 1] = lines[at];
         lines.sort();
     }
-    if count > 1 && r.once_in(16) {
+    if count > 1 && !matches!(size, Size::Huge(_, true)) && r.once_in(if size == Size::Small { 16 } else { 3 }) {
         let at = match r.below(3) {
             0 => 0,
             1 => count - 2,
@@ -68,17 +68,29 @@ fn cues(r: &mut Rng, size: Size) -> Asked {
 /// 51.
 fn fill(r: &mut Rng, size: Size) -> Asked {
     let length = transport::length(r);
-    let t: Transport = transport::transport(r, length);
+    let mut t: Transport = transport::transport(r, length);
     let (room, meter, tempo) = match size {
-        Size::Huge(count) if r.once_in(2) => {
-            (count as u32 + r.pick(&[0, 0, 3]), maps::meter(r, Size::Small), Tempo::default())
+        Size::Small => {
+            let tempo = if r.once_in(2) { Tempo::default() } else { maps::tempo(r, size) };
+            (r.below(40) as u32, maps::meter(r, size), tempo)
         }
-        Size::Huge(_) => (r.below(6) as u32, Vec::new(), maps::tempo(r, size)),
-        Size::Small => (
-            r.below(40) as u32,
-            maps::meter(r, size),
-            if r.once_in(2) { Tempo::default() } else { maps::tempo(r, size) },
-        ),
+        Size::Huge(_, false) if r.once_in(3) => (r.below(6) as u32, Vec::new(), maps::tempo(r, size)),
+        // as many lines as are taken, and nothing that would refuse them
+        Size::Huge(count @ ..=65_536, _) => {
+            t = transport::sound_transport(r, length);
+            (count as u32, maps::meter_points(r, Size::Small), Tempo::default())
+        }
+        // more lines, alone or beside another refusal
+        Size::Huge(count, whole) => {
+            let bad = Tempo { nums: vec![2], dens: vec![2], bpms: vec![0] };
+            let (meter, tempo) = match r.below(5) {
+                _ if whole => (Vec::new(), Tempo::default()),
+                0 => (vec![7], Tempo::default()),
+                1 => (Vec::new(), bad),
+                _ => (Vec::new(), Tempo::default()),
+            };
+            (count as u32 + if whole { 0 } else { r.pick(&[0, 0, 3]) }, meter, tempo)
+        }
     };
     Asked::default().transport(&t).u32(room).words(&meter).tempo(&tempo)
 }

@@ -9,8 +9,8 @@ use tono_core::units::Beat;
 #[derive(Clone, Copy, PartialEq, Eq)]
 pub enum Size {
     Small,
-    /// A list of this many points, lines or words, at a rare place.
-    Huge(usize),
+    /// A list of this many points, lines or notes, at a rare place; and whether nothing else refuses it.
+    Huge(usize, bool),
 }
 
 fn denominator(r: &mut Rng) -> u32 {
@@ -40,7 +40,7 @@ fn ascending(r: &mut Rng, count: u64, mut bar: u32) -> Vec<u32> {
 
 /// The points of a meter map, whole.
 pub fn meter_points(r: &mut Rng, size: Size) -> Vec<u32> {
-    if let Size::Huge(count) = size {
+    if let Size::Huge(count, _) = size {
         // few different bars, since a walk looks through all points for each
         return (0..count).flat_map(|_| [r.below(4) as u32, r.between(1, 9) as u32, 1 << r.below(7)]).collect();
     }
@@ -69,7 +69,7 @@ pub fn meter_points(r: &mut Rng, size: Size) -> Vec<u32> {
 /// The words of a meter map, once in a while not of whole points. No list is longer than the form takes.
 pub fn meter(r: &mut Rng, size: Size) -> Vec<u32> {
     let mut words = meter_points(r, size);
-    if size != Size::Small && r.once_in(4) {
+    if matches!(size, Size::Huge(_, false)) && r.once_in(3) {
         words.truncate(words.len() - r.between(1, 2) as usize);
     } else if size == Size::Small && r.once_in(12) {
         words.extend([r.u32(), r.u32()].iter().take(1 + r.below(2) as usize));
@@ -117,7 +117,7 @@ fn point(r: &mut Rng, tempo: &mut Tempo, at: Beat, bpm: Option<u32>) {
 /// A tempo map of three lists of one length.
 pub fn even_tempo(r: &mut Rng, size: Size) -> Tempo {
     let mut tempo = Tempo::default();
-    let huge = if let Size::Huge(count) = size { Some(count as u64) } else { None };
+    let huge = if let Size::Huge(count, _) = size { Some(count as u64) } else { None };
     let some = huge.unwrap_or_else(|| r.between(1, 6) as u64);
     let kind = if huge.is_some() { 2 } else { r.below(12) };
     let mut at = match kind {
@@ -156,8 +156,11 @@ pub fn even_tempo(r: &mut Rng, size: Size) -> Tempo {
 /// A tempo map, once in a while uneven, or with a beat that is none. No list is longer than the form takes.
 pub fn tempo(r: &mut Rng, size: Size) -> Tempo {
     let mut tempo = even_tempo(r, size);
+    if matches!(size, Size::Huge(_, true)) {
+        return tempo;
+    }
     let small = size == Size::Small;
-    if r.once_in(if small { 12 } else { 4 }) {
+    if r.once_in(if small { 12 } else { 3 }) {
         match r.below(if small { 6 } else { 3 }) {
             0 => _ = tempo.nums.pop(),
             1 => _ = tempo.dens.pop(),

@@ -30,7 +30,7 @@ const NOTES_AT: u64 = 300;
 fn size(op: u32, place: u64) -> Size {
     let (every, first, most) = if op >= 0x60 { (NOTES_EVERY, NOTES_AT, 4_096) } else { (HUGE_EVERY, HUGE_AT, 65_536) };
     match (place % every).checked_sub(first) {
-        Some(past @ 0..=3) => Size::Huge(most + past as usize % 2),
+        Some(past @ 0..=5) => Size::Huge(most + past as usize % 2, past < 2),
         _ => Size::Small,
     }
 }

@@ -53,9 +53,9 @@ fn some_notes(r: &mut Rng, count: usize, multiple: u32) -> Vec<u32> {
 
 /// A list of notes, once in a while not of whole notes.
 fn notes(r: &mut Rng, size: Size, multiple: u32) -> Vec<u32> {
-    let count = if let Size::Huge(count) = size { count } else { r.below(10) as usize };
+    let count = if let Size::Huge(count, _) = size { count } else { r.below(10) as usize };
     let mut words = some_notes(r, count, multiple);
-    if r.once_in(12) {
+    if !matches!(size, Size::Huge(_, true)) && r.once_in(12) {
         words.extend([1, 2, 3].iter().take(1 + r.below(3) as usize));
     }
     words
@@ -72,10 +72,16 @@ fn factor(r: &mut Rng) -> u32 {
 
 /// 60. No more copies than can be walked where none of them is counted by its notes.
 fn repeat(r: &mut Rng, size: Size) -> Asked {
-    let g = grid(r);
+    let mut g = grid(r);
+    let past = r.once_in(16);
+    if past {
+        // the fourth copy stands at 2^64
+        (g.bars, g.steps_per_bar) = (1 << 31, 1 << 31);
+    }
     let notes = notes(r, size, 1);
     let each = notes.len() / 4;
     let times = match r.below(6) {
+        _ if past => r.below(9) as u32,
         0 if each > 0 => r.u32(),
         0 => r.below(70_000) as u32,
         1 => r.below(2) as u32,

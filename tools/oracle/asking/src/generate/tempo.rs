@@ -48,7 +48,7 @@ pub fn question(op: u32, r: &mut Rng, size: Size) -> Asked {
     let asked = Asked::default();
     let limit = op == 0x23 && size == Size::Small && r.once_in(40);
     // at the limit of 1,024 points and past it
-    let size = if limit { Size::Huge(r.between(1023, 1026) as usize) } else { size };
+    let size = if limit { Size::Huge(r.between(1023, 1026) as usize, false) } else { size };
     let tempo = maps::tempo(r, size);
     match op {
         0x20 | 0x21 => asked.u64(beat_bits(r, &tempo)).tempo(&tempo),

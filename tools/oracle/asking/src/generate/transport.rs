@@ -49,11 +49,10 @@ fn sound_position(r: &mut Rng, length: u64, looped: Option<(u64, u64)>) -> u64 {
     base.min(length)
 }
 
-/// A transport with a length of this kind, sound but for one in twelve.
-pub fn transport(r: &mut Rng, length: u64) -> Transport {
+/// A sound transport of this length.
+pub fn sound_transport(r: &mut Rng, length: u64) -> Transport {
     let looped = sound_loop(r, length);
-    let pickup = maps::pickup(r).filter(|beat| crate::refusal::is_beat(*beat));
-    let mut t = Transport {
+    Transport {
         rate: r.rate(),
         bpm: r.bpm(),
         beats_per_bar: if r.once_in(3) { maps::default_numerator(r) } else { 4 },
@@ -61,8 +60,13 @@ pub fn transport(r: &mut Rng, length: u64) -> Transport {
         position: sound_position(r, length, looped),
         state: r.pick(&[1, 1, 1, 0, 2]),
         looped,
-        pickup,
-    };
+        pickup: maps::pickup(r).filter(|beat| crate::refusal::is_beat(*beat)),
+    }
+}
+
+/// A transport of this length, sound but for one in twelve.
+pub fn transport(r: &mut Rng, length: u64) -> Transport {
+    let mut t = sound_transport(r, length);
     if r.once_in(12) {
         spoil(r, &mut t);
     }
@@ -153,8 +157,8 @@ fn both(r: &mut Rng, size: Size) -> (Vec<u32>, Tempo) {
             let tempo = if r.once_in(2) { Tempo::default() } else { maps::tempo(r, size) };
             (maps::meter(r, size), tempo)
         }
-        Size::Huge(_) if r.once_in(2) => (Vec::new(), maps::tempo(r, size)),
-        Size::Huge(_) => (maps::meter(r, size), Tempo::default()),
+        Size::Huge(..) if r.once_in(2) => (Vec::new(), maps::tempo(r, size)),
+        Size::Huge(..) => (maps::meter(r, size), Tempo::default()),
     }
 }
 

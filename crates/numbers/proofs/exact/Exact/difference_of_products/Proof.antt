@@ -1,41 +1,27 @@
--- Each product is known exactly, and the two are small enough for two words.
-use mathlib.Core.Path.{_≡_, ap, _∙_}
-use mathlib.Core.Bool.{true, false}
+-- Both numerators come through the machine's bits unchanged, and a product with a negative number is the product, negated.
+use mathlib.Core.Path.{ap, _∙_}
 use lib.IntN.{ℤ, pos, _+ℤ_, _*ℤ_}
 use mir.Syntax.{w64}
 use mir.ValLaws.{toZ-ofZ}
-use borrow.Author.Needs.{needs}
-use Rattle.numbers.specs.Signs.{withSign}
 use Rattle.numbers.specs.Exacts.{exactOf}
-use Rattle.numbers.proofs.Exacts.{worked, product-small, sum-small, minus-product}
+use Rattle.numbers.specs.Signs.{withSign}
+use mathlib.Core.Bool.{true}
+use Rattle.numbers.proofs.Exacts.{times-neg}
+use borrow.Author.Needs.{needs}
 use Rattle.numbers.proofs.exact.Exact.difference_of_products.Statement.{statement}
 use Rattle.numbers.proofs.exact.Exact.difference_of_products.Tie as tie
 
-times-requires : tie.Need-times-requires
-times-requires c κs = search needs
-
-times-requires-2 : tie.Need-times-requires-2
-times-requires-2 c κs = search needs
-
-one : (c : tie.After-times) → c .times .result ≡ exactOf (c .before .args .a *ℤ pos (c .before .args .b))
-one c = let s = c .before in c .times .ensures ∙ ap (λ (z : ℤ). exactOf (z *ℤ pos (s .args .b))) (toZ-ofZ w64 (s .args .a) (s .fits .a))
-
-two : (c : tie.After-times2) → c .times2 .result ≡ exactOf (c .before .before .args .c *ℤ withSign true (c .before .before .args .d))
-two c =
-    let s = c .before .before in
-    c .times2 .ensures ∙ ap (λ (z : ℤ). exactOf (z *ℤ withSign true (s .args .d))) (toZ-ofZ w64 (s .args .c) (s .fits .c))
-
-plus-requires : tie.Need-plus-requires
-plus-requires c κs =
-    let s = c .before .before in
-    sum-small
-    (product-small (s .args .a) false (s .args .b) _ (s .fits .a .sfits) (s .fits .b .fits) (one (c .before)))
-    (product-small (s .args .c) true (s .args .d) _ (s .fits .c .sfits) (s .fits .d .fits) (two c))
+of-products-requires : tie.Need-of-products-requires
+of-products-requires c κs = search needs
 
 returns : tie.Need-returns
 returns c =
-    let s = c .before .before .before .args in
-    worked (λ (x y : ℤ). exactOf (x +ℤ y)) _ _ _ _ _ (one (c .before .before)) (minus-product _ (s .c) (s .d) (two (c .before))) (c .plus .ensures)
+    let s = c .before in
+    let x = toZ-ofZ w64 (s .args .a) (s .fits .a) in
+    let y = toZ-ofZ w64 (s .args .c) (s .fits .c) in
+    c .of-products .ensures
+    ∙ (λ i. exactOf (x i *ℤ pos (s .args .b) +ℤ y i *ℤ withSign true (s .args .d)))
+    ∙ ap (λ (z : ℤ). exactOf (s .args .a *ℤ pos (s .args .b) +ℤ z)) (times-neg (s .args .c) (s .args .d))
 
 pub difference-of-products-spec : {M : Type 1} → statement M
-difference-of-products-spec = tie.close (tie.spec times-requires times-requires-2 plus-requires returns)
+difference-of-products-spec = tie.close (tie.spec of-products-requires returns)

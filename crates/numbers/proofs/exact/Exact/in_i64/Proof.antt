@@ -1,7 +1,7 @@
 -- Stopping the size at one word keeps the test against the largest magnitude.
-use mathlib.Core.Path.{_≡_, sym, ap, _∙_}
+use mathlib.Core.Path.{sym, _∙_}
 use mathlib.Core.Bool.{Bool, true, false}
-use Prim.Native.Nat.{ℕ, _<_, _^_, _-_}
+use Prim.Native.Nat.{_<_, _^_, _-_}
 use lib.Dec.{leb, lit<}
 use borrow.Author.Needs.{needs}
 use Rattle.numbers.specs.Signs.{mostOf}

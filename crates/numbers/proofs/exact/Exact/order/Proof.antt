@@ -1,7 +1,7 @@
 -- Like signs compare the sizes; unlike signs decide unless both numbers are 0.
 use mathlib.Core.Path.{sym, ap, _∙_}
 use mathlib.Core.Bool.{true, false}
-use lib.IntN.{ℤ, _-ℤ_}
+use lib.IntN.{_-ℤ_}
 use Rattle.numbers.specs.Exacts.{sizeOf, orderOf}
 use Rattle.numbers.proofs.Exacts.{signs-known, neg-neg, pos+neg, neg-pos, pos-neg}
 use borrow.Author.Needs.{needs}

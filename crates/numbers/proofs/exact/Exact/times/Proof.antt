@@ -1,5 +1,5 @@
-use mathlib.Core.Path.{_≡_, sym, ap, _∙_}
-use mathlib.Core.Bool.{Bool, not, Bool·beq}
+use mathlib.Core.Path.{_≡_, ap, _∙_}
+use mathlib.Core.Bool.{not, Bool·beq}
 use Prim.Native.Nat.{ℕ, _*_}
 use lib.IntN.{natAbs}
 use mir.Syntax.{w64}

@@ -1,6 +1,6 @@
 -- `beat::Wide::below` meets its contract. Assumes nothing.
-use mathlib.Core.Path.{_≡_, sym}
-use Prim.Native.Nat.{ℕ, _^_}
+use mathlib.Core.Path.{sym}
+use Prim.Native.Nat.{_^_}
 use native.Mathlib.Nat.{le-of-lt}
 use native.Mathlib.Omega.{arith}
 use Rattle.numbers.specs.Exacts.{sizeOf}

@@ -1,6 +1,6 @@
 -- `beat::Wide::less` meets its contract. Assumes nothing.
 use borrow.Author.Needs.{needs}
-use Prim.Native.Nat.{ℕ, _+_, _-_, _<_, _≤_, _^_}
+use Prim.Native.Nat.{_+_, _-_, _<_, _≤_, _^_}
 use native.Mathlib.Nat.{le-of-lt, le-of-suc-le-suc, lt-of-le-of-lt, sub-le, sub-pos-iff-lt, le-add-right}
 use Rattle.numbers.specs.Exacts.{sizeOf}
 use Rattle.numbers.proofs.Words as W

@@ -1,6 +1,6 @@
 -- `beat::Wide::plus` meets its contract. Assumes nothing.
 use borrow.Author.Needs.{needs}
-use Prim.Native.Nat.{ℕ, _+_, _-_, _<_, _^_}
+use Prim.Native.Nat.{_+_, _-_, _<_, _^_}
 use native.Mathlib.Omega.{arith}
 use Rattle.numbers.specs.Exacts.{sizeOf}
 use Rattle.numbers.proofs.Words as W
