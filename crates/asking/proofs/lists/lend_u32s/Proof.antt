@@ -1,0 +1,32 @@
+-- A part from 0 up to the smaller of n and the length is the front of n.
+use Prim.Native.Nat.{_-_}
+use native.Mathlib.Omega.{arith}
+use borrow.Author.Needs.{needs}
+use Rattle.asking.proofs.Parts.{front}
+use Rattle.asking.proofs.lists.lend_u32s.Statement.{statement}
+use Rattle.asking.proofs.lists.lend_u32s.Tie as tie
+
+least-requires : tie.Need-least-requires
+least-requires c κs = search needs
+
+mul-space : tie.Need-mul-space
+mul-space c = search needs
+
+sub-result : tie.Need-sub-result
+sub-result c = search needs
+
+part-space-start : tie.Need-part-space-start
+part-space-start c = search needs
+
+part-space-end : tie.Need-part-space-end
+part-space-end c = search needs
+
+returns : tie.Need-returns
+returns c =
+    let s = c .before .before .before .args in
+    front (s .space .now) (s .n) (c .before .least .result - 0) (omega (arith, c .before .least .ensures))
+
+pub lend-u32s-spec : {M : Type 1} → statement M
+lend-u32s-spec =
+    tie.close
+    (tie.spec least-requires mul-space sub-result part-space-start part-space-end returns)

@@ -1,0 +1,40 @@
+-- The count is within the bound or not; then the callees' equations, one in the other.
+use mathlib.Core.Path.{subst}
+use Prim.Native.Nat.{ℕ, _<_, _≤_}
+use borrow.Author.Tests.{lt-ltb, le-ltb}
+use lib.ListN.{getD}
+use borrow.Author.Needs.{needs}
+use Rattle.asking.proofs.lists.past_longs.Statement.{statement}
+use Rattle.asking.proofs.lists.past_longs.Tie as tie
+
+u32-at-requires : tie.Need-u32-at-requires
+u32-at-requires c κs = search needs
+
+cast-n : tie.Need-cast-n
+cast-n c = search needs
+
+returns : tie.Need-returns
+returns c =
+    let s = c .before .before .before .args in
+    rw (lt-ltb (65537) (getD (s .q .now) (s .at) 0) (subst (λ (n : ℕ). 65537 < n) (c .before .u32-at .ensures) (c .if1 .taken)))
+
+past-requires : tie.Need-past-requires
+past-requires c κs = search needs
+
+mul-past : tie.Need-mul-past
+mul-past c = search needs
+
+past-requires-2 : tie.Need-past-requires-2
+past-requires-2 c κs = search needs
+
+returns-2 : tie.Need-returns-2
+returns-2 c =
+    let u = c .before .before .before in
+    let s = u .before .before .args in
+    let few = le-ltb (65537) (getD (s .q .now) (s .at) 0) (subst (λ (n : ℕ). n ≤ 65537) (u .u32-at .ensures) (c .before .before .if1 .left)) in
+    rw (few, c .past2 .ensures, c .before .past .ensures, u .u32-at .ensures)
+
+pub past-longs-spec : {M : Type 1} → statement M
+past-longs-spec =
+    tie.close
+    (tie.spec u32-at-requires cast-n returns past-requires mul-past past-requires-2 returns-2)

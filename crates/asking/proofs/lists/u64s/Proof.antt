@@ -1,0 +1,64 @@
+-- Below k every element is the number of its two words.
+use mathlib.Core.Path.{refl}
+use Prim.Native.Nat.{_-_}
+use lib.ListN.{length}
+use Rattle.asking.specs.Lists.{u64In}
+use Rattle.asking.proofs.Filling.{Filled, none, one-more, all}
+use borrow.Author.Needs.{needs}
+use Rattle.asking.proofs.lists.u64s.Statement.{statement}
+use Rattle.asking.proofs.lists.u64s.Tie as tie
+
+abbrev Inv-loop : tie.InvT-loop
+Inv-loop list space₀ k₀ space k = Filled 0 (u64In list) (length space₀) space k
+
+abbrev μ-loop : tie.MeasureT-loop
+μ-loop list space₀ k₀ space k = length space₀ - k
+
+loop-holds : tie.Need-loop-holds Inv-loop μ-loop
+loop-holds c = none 0 _ _ _ refl
+
+mul-u64-at : tie.Need-mul-u64-at Inv-loop μ-loop
+mul-u64-at c = search needs
+
+u64-at-requires : tie.Need-u64-at-requires Inv-loop μ-loop
+u64-at-requires c κs = search needs
+
+mul-space : tie.Need-mul-space Inv-loop μ-loop
+mul-space c = search needs
+
+slice-write-space : tie.Need-slice-write-space Inv-loop μ-loop
+slice-write-space c = search needs
+
+add-k : tie.Need-add-k Inv-loop μ-loop
+add-k c = search needs
+
+loop-less : tie.Need-loop-less Inv-loop μ-loop
+loop-less c = search needs
+
+loop-again : tie.Need-loop-again Inv-loop μ-loop
+loop-again c =
+    let l = c .before .before .loop in
+    one-more 0 _ _ (l .space) (l .k) (c .u64-at .result) (l .inv) (c .before .loop-test .taken) (c .u64-at .ensures)
+
+same-length : tie.Need-same-length Inv-loop μ-loop
+same-length c = c .before .loop .inv .long
+
+returns : tie.Need-returns Inv-loop μ-loop
+returns c = let l = c .before .loop in all 0 _ _ (l .space) (l .k) (l .inv) (c .loop-test .left)
+
+pub u64s-spec : {M : Type 1} → statement M
+u64s-spec =
+    tie.close
+    (tie.spec
+    Inv-loop
+    μ-loop
+    loop-holds
+    mul-u64-at
+    u64-at-requires
+    mul-space
+    slice-write-space
+    add-k
+    loop-less
+    loop-again
+    same-length
+    returns)

@@ -1,0 +1,33 @@
+-- What the words of a question mean. A word past the question's end counts as 0.
+use Prim.Native.Nat.{ℕ, _+_, _-_, _*_}
+use mathlib.Core.Bool.{cond}
+use mathlib.Core.List.{List}
+use lib.Dec.{ltb}
+use lib.IntN.{ℤ, pos, negsuc}
+use lib.ListN.{getD}
+use Rattle.beats.specs.declared.Beat.{Beat}
+
+-- the word of four bytes, little-endian
+abbrev pub joined : ℕ → ℕ → ℕ → ℕ → ℕ
+joined a b c d = a + 256 * b + 65536 * c + 16777216 * d
+
+-- the word of the four bytes from an index on
+abbrev pub wordAt : List ℕ → ℕ → ℕ
+wordAt bytes at = joined (getD bytes at 0) (getD bytes (at + 1) 0) (getD bytes (at + 2) 0) (getD bytes (at + 3) 0)
+
+-- the 64 bits of two words, the lower one first
+abbrev pub u64At : List ℕ → ℕ → ℕ
+u64At q i = getD q i 0 + 4294967296 * getD q (i + 1) 0
+
+-- the number that 64 bits are in two's complement. (negsuc n is -(n + 1).)
+unfoldable pub signedOf : ℕ → ℤ
+signedOf bits = cond (ltb bits 9223372036854775808) (pos bits) (negsuc (18446744073709551615 - bits))
+
+-- and the bits of a number
+abbrev pub bitsOf : ℤ → ℕ
+bitsOf (pos n) = n
+bitsOf (negsuc n) = 18446744073709551615 - n
+
+-- the three words of a Beat
+abbrev pub beatAt : List ℕ → ℕ → Beat
+beatAt q i = record { num = signedOf (u64At q i); den = getD q (i + 2) 0 }

@@ -1,0 +1,149 @@
+// The next question of the input.
+ghost use mathlib.Core.Path.{_≡_};
+ghost use Prim.Native.Nat.{_≤_};
+ghost use Rattle.asking.specs.Fields.{joined, wordAt};
+use crate::CHUNK;
+use crate::MOST;
+
+fn wide(b: u8) -> u32
+    ensures { λ r. ⌜ r ≡ b ⌝ }
+{
+    b as u32
+}
+
+// The word of four bytes, the lowest first.
+fn join(a: u8, b: u8, c: u8, d: u8) -> u32
+    ensures { λ r. ⌜ r ≡ joined a b c d ⌝ }
+{
+    wide(a) + wide(b) * 0x100 + wide(c) * 0x1_0000 + wide(d) * 0x100_0000
+}
+
+// The word of four bytes from an index on, or 0 past the end.
+fn word_at(b: &[u8; CHUNK], at: usize) -> u32
+    ensures { λ r. ⌜ (at ≤ 65532 → r ≡ wordAt (now (b .entry)) at) ⌝ }
+{
+    if at <= 65532 {
+        join(b[at], b[at + 1], b[at + 2], b[at + 3])
+    } else {
+        0
+    }
+}
+
+enum Step {
+    Word(u32),
+    // Bytes are left, and fewer than four.
+    Short,
+    End,
+}
+
+// The next word. `at` is where it starts in the chunk, and `left` how many of the chunk's bytes
+// are still to be read.
+fn next(chunk: &mut [u8; CHUNK], at: &mut usize, left: &mut usize) -> Step {
+    if *left == 0 {
+        *left = io::read_full(0, chunk);
+        *at = 0;
+    }
+    let n = *left;
+    let i = *at;
+    if n == 0 {
+        return Step::End;
+    }
+    if n < 4 {
+        return Step::Short;
+    }
+    // a chunk is whole words, so a word that is there never starts so late
+    if i > 65532 {
+        return Step::Short;
+    }
+    *left = n - 4;
+    *at = i + 4;
+    Step::Word(word_at(chunk, i))
+}
+
+// Lets n words pass; false where the input ends before.
+fn skip(chunk: &mut [u8; CHUNK], at: &mut usize, left: &mut usize, n: usize) -> bool {
+    let mut k = n;
+    while k > 0 {
+        let Step::Word(_) = next(chunk, at, left) else {
+            return false;
+        };
+        k -= 1;
+    }
+    true
+}
+
+// Puts a word into q, where it has the index.
+fn keep(q: &mut [u32; MOST], k: usize, w: u32) {
+    if k < MOST {
+        q[k] = w;
+    }
+}
+
+// Puts the next n words at the start of q; false where the input ends before.
+fn fill(
+    chunk: &mut [u8; CHUNK],
+    at: &mut usize,
+    left: &mut usize,
+    q: &mut [u32; MOST],
+    n: usize,
+) -> bool {
+    let mut k = 0;
+    while k < n {
+        let Step::Word(w) = next(chunk, at, left) else {
+            return false;
+        };
+        keep(q, k, w);
+        k += 1;
+    }
+    true
+}
+
+pub enum Asked {
+    // The op, and how many words of the buffer are its question.
+    Ask(u32, usize),
+    // A question of more words than the buffer has, which were let pass.
+    TooLarge,
+    // The input ends within the question.
+    Cut,
+    End,
+}
+
+// The next question: its op, and its words at the start of q. A program starts with `at` and `left`
+// both 0 and leaves them to this function.
+pub fn question(
+    chunk: &mut [u8; CHUNK],
+    at: &mut usize,
+    left: &mut usize,
+    q: &mut [u32; MOST],
+) -> Asked {
+    match next(chunk, at, left) {
+        Step::End => Asked::End,
+        Step::Short => Asked::Cut,
+        Step::Word(op) => behind(chunk, at, left, q, op),
+    }
+}
+
+// What is behind the op: a count, and as many words.
+fn behind(
+    chunk: &mut [u8; CHUNK],
+    at: &mut usize,
+    left: &mut usize,
+    q: &mut [u32; MOST],
+    op: u32,
+) -> Asked {
+    let Step::Word(count) = next(chunk, at, left) else {
+        return Asked::Cut;
+    };
+    let n = count as usize;
+    if n > MOST {
+        if skip(chunk, at, left, n) {
+            return Asked::TooLarge;
+        }
+        return Asked::Cut;
+    }
+    if fill(chunk, at, left, q, n) {
+        Asked::Ask(op, n)
+    } else {
+        Asked::Cut
+    }
+}
