@@ -53,6 +53,11 @@ quot-one : (z : ℤ) → quotZ z (pos 1) ≡ z
 quot-one (pos a) = ap pos (div-one a)
 quot-one (negsuc a) = rw (div-one (suc a))
 
+-- numbers that have no common factor stay as they are
+pub kept : (n : ℤ) (d e : ℕ) → d ≡ max e 1 → gcdOf (natAbs n) d ≡ 1 → record { num = n; den = d } ≡ newBeat n e
+unfolding newBeat lowest
+kept n d e m g = rw (← m, g, quot-one n, div-one d)
+
 pub stays : (b : Beat) → 0 < b .den → gcdOf (natAbs (b .num)) (b .den) ≡ 1 → newBeat (b .num) (b .den) ≡ b
 unfolding newBeat lowest
 stays b h e =

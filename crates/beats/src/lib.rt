@@ -67,6 +67,9 @@ impl Beat {
     {
         let d = positive(den);
         let g = numbers::gcd(numbers::magnitude(num), d as u64);
+        if g == 1 {
+            return Beat { num, den: d };
+        }
         Beat {
             num: num / (g as i64),
             den: (d as u64 / g) as u32,

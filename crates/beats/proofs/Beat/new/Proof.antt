@@ -1,6 +1,6 @@
 -- The divisor is not 0 and at most the denominator, so both quotients fit, and they are the definition's.
 use borrow.Author.Needs.{needs}
-use mathlib.Core.Path.{_≡_, ap, _∙_}
+use mathlib.Core.Path.{_≡_, sym, ap, _∙_}
 use Prim.Native.Nat.{ℕ, max, _<_, _≤_, _^_, _/_}
 use native.Mathlib.Nat.{div-le-self}
 use native.Mathlib.Omega.{arith}
@@ -12,6 +12,7 @@ use mir.ValLaws.{toZ-ofZ, sfits-le}
 use Rattle.numbers.specs.Divisor.{gcdOf}
 use Rattle.beats.specs.Beats.{lowest, newBeat}
 use Rattle.numbers.proofs.Laws.{gcd-pos, gcd-le, read-pos, mag-quot}
+use Rattle.beats.proofs.Lowest.{kept}
 use Rattle.beats.proofs.Beat.new.Statement.{statement}
 use Rattle.beats.proofs.Beat.new.Tie as tie
 
@@ -42,6 +43,9 @@ module _ {num : ℤ} {den d g : ℕ} (k : Known num den d g) where
   unfolding newBeat lowest
   made = rw (quot-read, toZ-ofZ w64 (quotZ num (pos g)) quot-fits, k .g-is, k .d-is)
 
+  unchanged : g ≡ 1 → record { num = toZ w64 (ofZ w64 num); den = d } ≡ newBeat num den
+  unchanged e = rw (toZ-ofZ w64 num (k .fits)) (kept num d den (k .d-is) (sym (k .g-is) ∙ e))
+
 known : (c : tie.After-gcd) → Known (c .before .before .before .args .num) (c .before .before .before .args .den) (c .before .before .positive .result) (c .gcd .result)
 known c =
     let s = c .before .before .before in
@@ -64,23 +68,30 @@ cast-gcd c = search needs
 gcd-requires : tie.Need-gcd-requires
 gcd-requires c κs = search needs
 
-cast-t7 : tie.Need-cast-t7
-cast-t7 c = record { sfits = g-small (known c) }
+returns : tie.Need-returns
+returns c = unchanged (known (c .before)) (c .if1 .taken)
 
-div-t8 : tie.Need-div-t8
-div-t8 c = (g-pos (known c), rw (quot-read (known c)) (quot-fits (known c)))
+cast-t8 : tie.Need-cast-t8
+cast-t8 c = record { sfits = g-small (known (c .before)) }
+
+div-t9 : tie.Need-div-t9
+div-t9 c =
+    let k = known (c .before) in
+    (g-pos k, rw (quot-read k) (quot-fits k))
 
 cast-t5 : tie.Need-cast-t5
 cast-t5 c = search needs
 
 div-t6 : tie.Need-div-t6
-div-t6 c = g-pos (known c)
+div-t6 c = g-pos (known (c .before))
 
-cast-t9 : tie.Need-cast-t9
-cast-t9 c = omega (arith, div-le-self (c .before .before .positive .result) (c .gcd .result), known c)
+cast-t10 : tie.Need-cast-t10
+cast-t10 c =
+    let d = c .before .before .before .positive .result in
+    omega (arith, div-le-self d (c .before .gcd .result), known (c .before))
 
-returns : tie.Need-returns
-returns c = made (known c)
+returns-2 : tie.Need-returns-2
+returns-2 c = made (known (c .before))
 
 pub new-spec : {M : Type 1} → statement M
 new-spec =
@@ -90,9 +101,10 @@ new-spec =
     magnitude-requires
     cast-gcd
     gcd-requires
-    cast-t7
-    div-t8
+    returns
+    cast-t8
+    div-t9
     cast-t5
     div-t6
-    cast-t9
-    returns)
+    cast-t10
+    returns-2)

@@ -1,0 +1,23 @@
+//! The original's side of the bench: `twin LAYER [CALL SIZE TURNS]` is the twin of the program `bench_LAYER`, row by row.
+//! A layer is a module with the same rows, over the same inputs.
+
+mod benching;
+mod units;
+
+use benching::Asked;
+
+fn main() {
+    let words: Vec<String> = std::env::args().skip(1).collect();
+    let Some((layer, rest)) = words.split_first() else {
+        eprintln!("usage: twin LAYER [CALL SIZE TURNS]");
+        std::process::exit(2);
+    };
+    let asked = Asked::of(rest);
+    match layer.as_str() {
+        "units" => units::rows(&asked),
+        _ => {
+            eprintln!("twin: no layer {layer}");
+            std::process::exit(2);
+        }
+    }
+}
