@@ -1,14 +1,14 @@
 -- A new beat is in lowest terms and has the fraction's value, and a beat is its value: equal fractions have one beat.
-use mathlib.Core.Path.{_≡_, refl, sym, ap, _∙_}
+use mathlib.Core.Path.{_≡_, refl, sym, ap, _∙_, subst}
 use mathlib.Core.Bool.{true}
-use Prim.Native.Nat.{ℕ, zero, suc, max, _*_, _/_, _<_}
-use native.Mathlib.Nat.{zero-div, div-self, zero-mul, div-one, le-div-iff-mul-le, div-mul-cancel}
+use Prim.Native.Nat.{ℕ, zero, suc, max, _*_, _/_, _<_, _∣_}
+use native.Mathlib.Nat.{zero-div, div-self, zero-mul, div-one, le-div-iff-mul-le, div-mul-cancel, dvd-mul-left}
 use native.Mathlib.Omega.{arith}
 use lib.IntN.{ℤ, pos, negsuc, negℤ, natAbs, _*ℤ_}
 use lib.Signed.{quotZ}
 use Rattle.numbers.specs.Divisor.{gcdOf}
 use Rattle.numbers.specs.Signs.{isNeg, withSign}
-use Rattle.numbers.proofs.Laws.{gcd-left, gcd-right, gcd-pos, gcd-le, gcd-over, gcd-of-zero, same-den, same-num, abs-sign, sign-abs, abs-times, neg-times}
+use Rattle.numbers.proofs.Laws.{gcd-left, gcd-right, gcd-pos, gcd-le, gcd-over, gcd-of-zero, euclid, same-den, same-num, abs-sign, sign-abs, abs-times, neg-times}
 use Rattle.beats.specs.declared.Beat.{Beat}
 use Rattle.beats.specs.Beats.{lowest, newBeat}
 
@@ -85,3 +85,9 @@ same-beat a b ha hb p q e =
     let d : a .den ≡ b .den = same-den (natAbs (a .num)) (a .den) (natAbs (b .num)) (b .den) ha hb p q f in
     let m : a .num ≡ b .num = sym (sign-abs (a .num)) ∙ (λ i. withSign (s i) (n i)) ∙ sign-abs (b .num) in
     λ i. record { num = m i; den = d i }
+
+-- the denominator of a fraction in lowest terms divides that of any fraction with its value
+pub den-divides : (b : Beat) (m : ℤ) (k : ℕ) → 0 < b .den → 0 < k → gcdOf (natAbs (b .num)) (b .den) ≡ 1 → b .num *ℤ pos k ≡ m *ℤ pos (b .den) → b .den ∣ k
+den-divides b m k hb hk p e =
+    let f : natAbs (b .num) * k ≡ natAbs m * b .den = sym (abs-times (b .num) k) ∙ ap natAbs e ∙ abs-times m (b .den) in
+    euclid (b .den) (natAbs (b .num)) k hk p (subst (λ (x : ℕ). b .den ∣ x) (sym f) (dvd-mul-left (b .den) (natAbs m)))

@@ -3,8 +3,11 @@ use mathlib.Core.Path.{_≡_, refl}
 use Rattle.numbers.specs.Divisor.{gcdOf, remainders}
 use Rattle.beats.specs.Beats.{newBeat, lowest}
 use Rattle.beats.specs.Sums.{fitted}
+use Rattle.meter.specs.Meters.{pointsOf, later, lastAt, lenOf, barLen, nearer, nextChange}
+use Rattle.meter.specs.Starts.{afterBars, segments, startOf}
+use Rattle.meter.specs.Counts.{doubling, halving, searched, reaches, countAt}
 use Rattle.edges.specs.Edges.{table, answers, givens}
 
 pub holds : answers table ≡ givens table
-unfolding newBeat lowest gcdOf remainders fitted
+unfolding newBeat lowest gcdOf remainders fitted pointsOf later lastAt lenOf barLen nearer nextChange afterBars segments startOf doubling halving searched reaches countAt
 holds = refl

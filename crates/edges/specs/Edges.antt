@@ -9,6 +9,9 @@ use Rattle.numbers.specs.Answers.{Answer, accepted, refused}
 use Rattle.beats.specs.declared.Beat.{Beat}
 use Rattle.beats.specs.Beats.{newBeat}
 use Rattle.beats.specs.Sums.{addAnswer, orderAnswer}
+use Rattle.meter.specs.declared.Pickup.{Pickup}
+use Rattle.meter.specs.declared.Pickup.the-variants.{Absent, Present}
+use Rattle.meter.specs.Answers.{countAnswer}
 
 -- ---- questions
 
@@ -16,6 +19,7 @@ pub data Question : Type 0 where
   new : ℤ → ℕ → Question
   add : Beat → Beat → Question
   order : Beat → Beat → Question
+  count : List ℕ → ℕ → Pickup → Beat → Question
 
 -- ---- answers: the values, as whole numbers
 
@@ -32,10 +36,14 @@ ofOrder Less = negsuc 0 ∷ []
 ofOrder Equal = pos 0 ∷ []
 ofOrder Greater = pos 1 ∷ []
 
+abbrev pub ofNumber : ℕ → List ℤ
+ofNumber n = pos n ∷ []
+
 abbrev pub answer : Question → Answer (List ℤ)
 answer (new num den) = accepted (ofBeat (newBeat num den))
 answer (add a b) = read ofBeat (addAnswer a b)
 answer (order a b) = read ofOrder (orderAnswer a b)
+answer (count words default pickup beat) = read ofNumber (countAnswer words default pickup beat)
 
 -- ---- the table
 
@@ -54,6 +62,10 @@ num // den = record { num = num; den = den }
 abbrev pub minus : ℕ → ℤ
 minus n = negℤ (pos n)
 
+-- one point, 4/4 from bar 0 on
+abbrev pub fourFour : List ℕ
+fourFour = 0 ∷ 4 ∷ 4 ∷ []
+
 abbrev pub table : List Edge
 table =
     edge (new (pos 6) 8) (accepted (ofBeat (pos 3 // 4)))
@@ -62,6 +74,13 @@ table =
     ∷ edge (add (pos 1 // 65536) (pos 1 // 65536)) (refused 2 [])
     ∷ edge (add (pos 1 // 65535) (pos 1 // 65536)) (accepted (ofBeat (pos 131071 // 4294901760)))
     ∷ edge (order (minus 1 // 2) (minus 1 // 3)) (accepted (ofOrder Less))
+    ∷ edge (count fourFour 4 (Present (pos 1 // 1)) (pos 0 // 1)) (accepted (ofNumber 0))
+    ∷ edge (count fourFour 4 (Present (pos 1 // 1)) (pos 1 // 1)) (accepted (ofNumber 1))
+    ∷ edge (count fourFour 4 (Present (pos 1 // 1)) (pos 9 // 1)) (accepted (ofNumber 3))
+    ∷ edge (count fourFour 4 (Present (pos 1 // 1)) (pos 28 // 3)) (accepted (ofNumber 4))
+    ∷ edge (count fourFour 4 (Present (pos 0 // 1)) (pos 1 // 2)) (accepted (ofNumber 2))
+    ∷ edge (count fourFour 4 Absent (pos 8589934592 // 1)) (accepted (ofNumber 2147483648))
+    ∷ edge (count fourFour 4 Absent (pos 8589934593 // 1)) (accepted (ofNumber 4294967295))
     ∷ []
 
 -- ---- the statement

@@ -3,6 +3,9 @@
 use beats::Beat;
 use beats::BeatAnswer;
 use beats::OrderAnswer;
+use meter::BarAnswer;
+use meter::CountAnswer;
+use meter::Pickup;
 use numbers::exact::Order;
 
 fn text(s: &[u8]) {
@@ -44,6 +47,29 @@ fn print_stand(a: OrderAnswer) {
     }
 }
 
+fn print_count(a: CountAnswer) {
+    match a {
+        CountAnswer::Bars(bars) => print_number(bars as u64),
+        CountAnswer::Uneven => text(b"refused 3\n"),
+        CountAnswer::TooLong => text(b"refused 4\n"),
+        CountAnswer::NotBeat => text(b"refused 1\n"),
+    }
+}
+
+fn print_number(n: u64) {
+    io::print_decimal(1, n);
+    text(b"\n");
+}
+
+fn print_start(a: BarAnswer) {
+    match a {
+        BarAnswer::Beats(b) => print_beat(b),
+        BarAnswer::Uneven => text(b"refused 3\n"),
+        BarAnswer::TooLong => text(b"refused 4\n"),
+        BarAnswer::NotBeat => text(b"refused 1\n"),
+    }
+}
+
 fn beat_edges() {
     text(b"new(6, 8): ");
     print_beat(Beat::new(6, 8));
@@ -59,6 +85,42 @@ fn beat_edges() {
     print_stand(Beat::new(-1, 2).cmp(Beat::new(-1, 3)));
 }
 
+// Bars gone by in 4/4.
+fn count(pickup: Pickup, beat: Beat) {
+    let words = [0u32, 4, 4];
+    print_count(meter::bar_count_at_beat(&words, 4, pickup, beat));
+}
+
+fn count_edges() {
+    let one = Pickup::Present(Beat::from_int(1));
+    text(b"pickup 1, 4/4, beat 0: ");
+    count(one, Beat::zero());
+    text(b"pickup 1, 4/4, beat 1: ");
+    count(one, Beat::from_int(1));
+    text(b"pickup 1, 4/4, beat 9: ");
+    count(one, Beat::from_int(9));
+    text(b"pickup 1, 4/4, beat 28/3: ");
+    count(one, Beat::new(28, 3));
+    text(b"pickup 0, 4/4, beat 1/2: ");
+    count(Pickup::Present(Beat::zero()), Beat::new(1, 2));
+    text(b"4/4, beat 8589934592: ");
+    count(Pickup::Absent, Beat::from_int(8589934592));
+    text(b"4/4, beat 8589934593: ");
+    count(Pickup::Absent, Beat::from_int(8589934593));
+}
+
+// A pickup so fine that the sum for bar 2 does not fit, while the longer one for bar 17 does.
+fn fine_pickup() {
+    let words = [0u32, 5, 64];
+    let pickup = Pickup::Present(Beat::new(1, 1073741824));
+    text(b"pickup 1/2^30, 5/64, bar 2: ");
+    print_start(meter::beat_at_bar(&words, 4, pickup, 2));
+    text(b"pickup 1/2^30, 5/64, bar 17: ");
+    print_start(meter::beat_at_bar(&words, 4, pickup, 17));
+}
+
 fn main() {
     beat_edges();
+    count_edges();
+    fine_pickup();
 }

@@ -16,3 +16,5 @@ pub use Rattle.numbers.proofs.Parts.{up, down, eq-parts, lt-parts, part
 pub use Rattle.numbers.proofs.Parts.{times-times, sum-times, gap-times, swapped, swapped-signed, times-cancel, lt-times, times-lt, lt-trans, sums-apart, grown}
 -- the order of two numbers
 pub use Rattle.numbers.proofs.Orders.{isLess, less-is, equal-only, same-equal, turned, exchanged, order-minus, order-times}
+-- by the order of two numbers
+pub use Rattle.numbers.proofs.Words.{by-order}

@@ -1,0 +1,12 @@
+pub mod Scanning
+pub mod Walking
+pub mod Passing
+pub mod Searching
+pub mod Refusing
+pub mod Fractions
+pub mod Counting
+pub mod Exactness
+pub mod Readings
+pub mod Fitting
+pub mod Bounds
+pub mod Laws

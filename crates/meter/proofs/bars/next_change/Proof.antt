@@ -1,0 +1,65 @@
+-- The loop keeps the next change: that of the points that are left, up to the least found so far.
+use mathlib.Core.Path.{_≡_, refl, sym, _∙_}
+use Prim.Native.Nat.{_≤_, _-_}
+use native.Mathlib.Omega.{arith}
+use lib.ListN.{length}
+use borrow.Author.Needs.{needs}
+use Rattle.meter.specs.Meters.{pointsOf, nextChange}
+use Rattle.meter.proofs.Scanning.{left, next-end, next-again}
+use Rattle.meter.proofs.bars.next_change.Statement.{statement}
+use Rattle.meter.proofs.bars.next_change.Tie as tie
+
+abbrev Inv-loop : tie.InvT-loop
+Inv-loop words bar end least₀ i₀ least i = (i ≤ length words) × (nextChange (left words i) bar least ≡ nextChange (pointsOf words) bar end)
+
+abbrev μ-loop : tie.MeasureT-loop
+μ-loop words bar end least₀ i₀ least i = length words - i
+
+loop-holds : tie.Need-loop-holds Inv-loop μ-loop
+loop-holds c = (omega arith, refl)
+
+add-loop : tie.Need-add-loop Inv-loop μ-loop
+add-loop c = search needs
+
+mul-nearer-change : tie.Need-mul-nearer-change Inv-loop μ-loop
+mul-nearer-change c = search needs
+
+shared-slice-read-nearer-change : tie.Need-shared-slice-read-nearer-change Inv-loop μ-loop
+shared-slice-read-nearer-change c = search needs
+
+nearer-change-requires : tie.Need-nearer-change-requires Inv-loop μ-loop
+nearer-change-requires c κs = search needs
+
+add-i : tie.Need-add-i Inv-loop μ-loop
+add-i c = search needs
+
+loop-less : tie.Need-loop-less Inv-loop μ-loop
+loop-less c = search needs
+
+loop-again : tie.Need-loop-again Inv-loop μ-loop
+loop-again c =
+    let l = c .before .before .before in
+    let s = l .before .before in
+    (omega arith, next-again _ (l .loop .i) (c .before .before .loop-test .taken) (s .args .bar) (l .loop .least) _ _ (c .nearer-change .ensures) (l .loop .inv .1))
+
+returns : tie.Need-returns Inv-loop μ-loop
+returns c =
+    let l = c .before in
+    let s = l .before .before in
+    sym (next-end _ (l .loop .i) (c .loop-test .left) (s .args .bar) (l .loop .least)) ∙ l .loop .inv .1
+
+pub next-change-spec : {M : Type 1} → statement M
+next-change-spec =
+    tie.close
+    (tie.spec
+    Inv-loop
+    μ-loop
+    loop-holds
+    add-loop
+    mul-nearer-change
+    shared-slice-read-nearer-change
+    nearer-change-requires
+    add-i
+    loop-less
+    loop-again
+    returns)

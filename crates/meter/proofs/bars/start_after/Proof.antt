@@ -1,0 +1,43 @@
+-- Bar 0 starts at 0; the opening says which of the two walks may be used.
+use mathlib.Core.Path.{sym, ap, _∙_}
+use native.Mathlib.Omega.{arith}
+use borrow.Author.Needs.{needs}
+use Rattle.meter.specs.declared.bars.Opening.{Opening}
+use Rattle.meter.specs.Meters.{pointsOf}
+use Rattle.meter.proofs.Walking.{start-zero, opening-ascending}
+use Rattle.meter.proofs.bars.start_after.Statement.{statement}
+use Rattle.meter.proofs.bars.start_after.Tie as tie
+
+zero-requires : tie.Need-zero-requires
+zero-requires c κs = search needs
+
+returns : tie.Need-returns
+returns c =
+    let s = c .before .before .before .before in
+    c .zero .ensures ∙ start-zero (pointsOf (s .args .words .now)) (s .args .default) (s .args .pickup) (s .args .bar) (c .before .if1 .taken)
+
+by-pass-requires : tie.Need-by-pass-requires
+by-pass-requires c κs =
+    let s = c .before .before .before .before in (
+      omega arith,
+      (
+        ap (λ (o : Opening). o .one) (s .pre),
+        sym (opening-ascending (pointsOf (s .args .words .now)) (s .args .default) (s .args .pickup)) ∙ sym (ap (λ (o : Opening). o .ascending) (s .pre)) ∙ c .if2 .taken,
+      ),
+    )
+
+by-segments-requires : tie.Need-by-segments-requires
+by-segments-requires c κs =
+    let s = c .before .before .before .before in
+    (omega arith, ap (λ (o : Opening). o .one) (s .pre))
+
+returns-2 : tie.Need-returns-2
+returns-2 c = search needs
+
+returns-3 : tie.Need-returns-3
+returns-3 c = search needs
+
+pub start-after-spec : {M : Type 1} → statement M
+start-after-spec =
+    tie.close
+    (tie.spec zero-requires returns by-pass-requires by-segments-requires returns-2 returns-3)

@@ -1,0 +1,40 @@
+-- What the count promises of a score that fits, in plain sums: no walk, no saturation and no search stands in these definitions.
+use mathlib.Core.Bool.{Bool, true, false, not}
+use mathlib.Core.Path.{_≡_}
+use mathlib.Core.List.{List}
+use Prim.Native.Nat.{ℕ, _%_}
+use lib.ListN.{length}
+use Rattle.beats.specs.declared.Beat.{Beat}
+use Rattle.beats.specs.Beats.{isBeat}
+use Rattle.beats.specs.Sums.{belowBeat}
+use Rattle.meter.specs.declared.MeterPoint.{MeterPoint}
+use Rattle.meter.specs.declared.Pickup.{Pickup}
+use Rattle.meter.specs.declared.CountAnswer.{CountAnswer}
+use Rattle.meter.specs.declared.CountAnswer.the-variants.{Bars}
+use Rattle.meter.specs.Meters.{pointsOf}
+use Rattle.meter.specs.Starts.{exactStart}
+use Rattle.meter.specs.Counts.{Least}
+use Rattle.meter.specs.Fits.{Fits}
+use Rattle.meter.specs.Answers.{countAnswer}
+use Rattle.meter.specs.Readings.{readCount}
+
+module _ (map : List MeterPoint) (default : ℕ) (pickup : Pickup) (beat : Beat) where
+  -- the lengths of the bars before this one add up to the beat or more
+  abbrev pub arrives : ℕ → Bool
+  arrives bar = not (belowBeat (exactStart map default pickup bar) beat)
+
+  -- the first bar that starts at or after the beat, where bar 2^31 does; and 2^32 - 1 where it starts before the beat
+  pub record FirstBar (bars : ℕ) : Type 0 where
+    pub first : arrives 2147483648 ≡ true → Least arrives bars
+    pub past : arrives 2147483648 ≡ false → bars ≡ 4294967295
+
+-- for the words of every score that fits and every beat, the call answers by this bar, and by nothing else
+abbrev pub CountPromise : Type 0
+CountPromise =
+    (words : List ℕ) (default : ℕ) (pickup : Pickup) (beat : Beat)
+    → length words % 3 ≡ 0
+    → Fits (pointsOf words) default pickup
+    → isBeat beat ≡ true
+    → (answer : CountAnswer)
+    → readCount answer ≡ countAnswer words default pickup beat
+    → (bars : ℕ) × ((answer ≡ Bars bars) × FirstBar (pointsOf words) default pickup beat bars)

@@ -1,0 +1,12 @@
+-- What crates above may use of tempo maps: they unfold neither the points nor the walks.
+
+-- what is known of a map that the test finds sound
+pub use Rattle.tempo.proofs.Testing.{SoundMap, sound}
+-- a walk over the points from index i on: how it begins, where it ends or stops, and how it goes on
+pub use Rattle.tempo.proofs.Walking.{pointsFrom, begins, ends, stops, goes}
+-- no two cases of an answer read alike
+pub use Rattle.tempo.proofs.Readings.{tempos-apart}
+-- seconds never fall as the beat rises; of the tempos only an infinity is excluded
+pub use Rattle.tempo.proofs.Rising.{seconds-rise, rising-none, rising-more, finite-tempo}
+-- floats that are not negative: rounding and the rounded operations keep their order
+pub use Rattle.tempo.proofs.Upward.{Up, up-right, up-trans, le→up, up→le, round-own, round-up, mul-up, div-up, add-up, add-more, sub-up}

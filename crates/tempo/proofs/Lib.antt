@@ -1,0 +1,8 @@
+pub mod Walking
+pub mod Testing
+pub mod Readings
+pub mod Cases
+pub mod Upward
+pub mod Zeros
+pub mod Rising
+pub mod Laws

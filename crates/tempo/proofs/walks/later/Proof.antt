@@ -1,0 +1,13 @@
+-- The composition of the two steps.
+use borrow.Author.Needs.{needs}
+use Rattle.tempo.proofs.walks.later.Statement.{statement}
+use Rattle.tempo.proofs.walks.later.Tie as tie
+
+seconds-at-requires : tie.Need-seconds-at-requires
+seconds-at-requires c κs = search needs
+
+returns : tie.Need-returns
+returns c = cc
+
+pub later-spec : {M : Type 1} → statement M
+later-spec = tie.close (tie.spec seconds-at-requires returns)

@@ -1,0 +1,125 @@
+-- The loop's invariant: the walk over the points from i on, from where it stands, answers as the whole walk does.
+use mathlib.Core.Path.{_≡_, _∙_}
+use mathlib.Core.Bool.{Bool}
+use Prim.Native.Nat.{_-_}
+use lib.IntN.{pos}
+use lib.ListN.{length, getD}
+use lib.Ieee.{Float, ofBits, le}
+use mir.Syntax.{w64}
+use mir.ValLaws.{toZ-ofZ}
+use denote.Ref.{now}
+use borrow.Author.Needs.{needs}
+use Rattle.tempo.specs.Tempos.{tempoPoints, elapsed, walk, secondsAtBeat}
+use Rattle.tempo.proofs.Walking.{pointsFrom, begins, ends, stops, goes}
+use Rattle.tempo.proofs.walks.seconds_at.Statement.{statement}
+use Rattle.tempo.proofs.walks.seconds_at.Tie as tie
+
+abbrev stop : Float → Float → Float → Bool
+stop beat at there = le beat at
+
+abbrev final : Float → Float → Float → Float → Float
+final beat secs from tempo = elapsed secs from beat tempo
+
+abbrev Inv-loop : tie.InvT-loop
+Inv-loop nums dens tempos beat secs₀ from₀ tempo₀ i₀ secs from tempo i =
+    walk (stop beat) (final beat) (pointsFrom nums dens tempos i) secs from tempo ≡ secondsAtBeat (tempoPoints nums dens tempos) beat
+
+abbrev μ-loop : tie.MeasureT-loop
+μ-loop nums dens tempos beat secs₀ from₀ tempo₀ i₀ secs from tempo i = length nums - i
+
+shared-slice-read-tempo-of : tie.Need-shared-slice-read-tempo-of Inv-loop μ-loop
+shared-slice-read-tempo-of c = search needs
+
+tempo-of-requires : tie.Need-tempo-of-requires Inv-loop μ-loop
+tempo-of-requires c κs = search needs
+
+loop-holds : tie.Need-loop-holds Inv-loop μ-loop
+unfolding ofBits
+loop-holds c =
+    let s = c .before .before .before .before in
+    begins (now (s .args .nums)) (now (s .args .dens)) (now (s .args .tempos)) (s .pre .1 .0) (s .pre .1 .1) (stop (s .args .beat)) (final (s .args .beat)) (s .pre .0) _ (c .tempo-of .ensures)
+
+mul-t12 : tie.Need-mul-t12 Inv-loop μ-loop
+mul-t12 c = search needs
+
+shared-slice-copy-out-t15 : tie.Need-shared-slice-copy-out-t15 Inv-loop μ-loop
+shared-slice-copy-out-t15 c = search needs
+
+mul-tempo-of : tie.Need-mul-tempo-of Inv-loop μ-loop
+mul-tempo-of c = search needs
+
+shared-slice-read-tempo-of-2 : tie.Need-shared-slice-read-tempo-of-2 Inv-loop μ-loop
+shared-slice-read-tempo-of-2 c = search needs
+
+float-of-requires : tie.Need-float-of-requires Inv-loop μ-loop
+float-of-requires c κs = search needs
+
+later-requires : tie.Need-later-requires Inv-loop μ-loop
+later-requires c κs = search needs
+
+returns : tie.Need-returns Inv-loop μ-loop
+returns c =
+    let s = c .before .before .before .before .before .before .before .before .before .before .before in
+    let l = c .before .before .before .before .before .before .loop in
+    c .later .ensures
+    ∙ stops (now (s .args .nums)) (now (s .args .dens)) (now (s .args .tempos)) (s .pre .1 .0) (s .pre .1 .1) (stop (s .args .beat)) (final (s .args .beat)) (l .i) (l .secs) (l .from) (l .tempo) _ (l .inv) (c .before .before .before .before .before .loop-test .taken) _ (toZ-ofZ w64 (getD (now (s .args .nums)) (l .i) (pos 0)) (record { sfits = c .before .before .before .before .t15 .given })) _ (c .before .before .float-of .ensures) (c .before .if1 .taken)
+
+later-requires-2 : tie.Need-later-requires-2 Inv-loop μ-loop
+later-requires-2 c κs = search needs
+
+mul-tempo-of-2 : tie.Need-mul-tempo-of-2 Inv-loop μ-loop
+mul-tempo-of-2 c = search needs
+
+shared-slice-read-tempo-of-3 : tie.Need-shared-slice-read-tempo-of-3 Inv-loop μ-loop
+shared-slice-read-tempo-of-3 c = search needs
+
+tempo-of-requires-2 : tie.Need-tempo-of-requires-2 Inv-loop μ-loop
+tempo-of-requires-2 c κs = search needs
+
+add-i : tie.Need-add-i Inv-loop μ-loop
+add-i c = search needs
+
+loop-less : tie.Need-loop-less Inv-loop μ-loop
+loop-less c = search needs
+
+loop-again : tie.Need-loop-again Inv-loop μ-loop
+loop-again c =
+    let s = c .before .before .before .before .before .before .before .before .before .before .before .before .before in
+    let l = c .before .before .before .before .before .before .before .before .loop in
+    rw (c .before .before .later2 .ensures)
+    (goes (now (s .args .nums)) (now (s .args .dens)) (now (s .args .tempos)) (s .pre .1 .0) (s .pre .1 .1) (stop (s .args .beat)) (final (s .args .beat)) (l .i) (l .secs) (l .from) (l .tempo) _ (l .inv) (c .before .before .before .before .before .before .before .loop-test .taken) _ (toZ-ofZ w64 (getD (now (s .args .nums)) (l .i) (pos 0)) (record { sfits = c .before .before .before .before .before .before .t15 .given })) _ (c .before .before .before .before .float-of .ensures) _ (c .tempo-of2 .ensures) (c .before .before .before .if1 .left))
+
+later-requires-3 : tie.Need-later-requires-3 Inv-loop μ-loop
+later-requires-3 c κs = search needs
+
+returns-2 : tie.Need-returns-2 Inv-loop μ-loop
+returns-2 c =
+    let s = c .before .before .before .before .before .before .before in
+    let l = c .before .before .loop in
+    c .later3 .ensures ∙ ends (now (s .args .nums)) (now (s .args .dens)) (now (s .args .tempos)) (s .pre .1 .0) (s .pre .1 .1) (stop (s .args .beat)) (final (s .args .beat)) (l .i) (l .secs) (l .from) (l .tempo) _ (l .inv) (c .before .loop-test .left)
+
+pub seconds-at-spec : {M : Type 1} → statement M
+seconds-at-spec =
+    tie.close
+    (tie.spec
+    Inv-loop
+    μ-loop
+    shared-slice-read-tempo-of
+    tempo-of-requires
+    loop-holds
+    mul-t12
+    shared-slice-copy-out-t15
+    mul-tempo-of
+    shared-slice-read-tempo-of-2
+    float-of-requires
+    later-requires
+    returns
+    later-requires-2
+    mul-tempo-of-2
+    shared-slice-read-tempo-of-3
+    tempo-of-requires-2
+    add-i
+    loop-less
+    loop-again
+    later-requires-3
+    returns-2)

@@ -1,0 +1,4 @@
+pub mod Tempos
+pub mod Answers
+pub mod Readings
+pub mod Rising

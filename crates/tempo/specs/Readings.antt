@@ -1,0 +1,13 @@
+-- Each case of the answers, in the numbers of document 01: 3 uneven, 4 too long, 1 not a beat, 5 empty map.
+use mathlib.Core.List.{[]}
+use lib.Ieee.{Float}
+use Rattle.numbers.specs.Answers.{Answer, accepted, refused}
+use Rattle.tempo.specs.declared.TempoAnswer.{TempoAnswer}
+use Rattle.tempo.specs.declared.TempoAnswer.the-variants.{Value, Uneven, TooLong, NotBeat, Empty}
+
+abbrev pub readTempo : TempoAnswer → Answer Float
+readTempo (Value x) = accepted x
+readTempo Uneven = refused 3 []
+readTempo TooLong = refused 4 []
+readTempo NotBeat = refused 1 []
+readTempo Empty = refused 5 []
