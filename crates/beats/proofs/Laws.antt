@@ -11,7 +11,7 @@ pub use Rattle.beats.proofs.Refusing.{beat-above, beat-lowest}
 -- the refusal by 1 comes before everything else
 pub use Rattle.beats.proofs.Refusing.{not-fine, is-fine, and-left, and-right}
 -- an accepted sum, difference or multiple is a beat and has the exact value
-pub use Rattle.beats.proofs.Values.{accepted-is, accepted-beat, accepted-value, sum-value, difference-value, multiple-value, scaled-value}
+pub use Rattle.beats.proofs.Values.{accepted-is, accepted-beat, accepted-value, cross, sum-value, difference-value, multiple-value, scaled-value}
 -- refused by 2 exactly where the two numbers do not fit as they stand
 pub use Rattle.beats.proofs.Values.{accepted-fits, refused-unfit}
 pub use Rattle.beats.proofs.Fitted.{fit, unfit}

@@ -54,7 +54,7 @@ module _ (map : List MeterPoint) (default : ℕ) (pickup : Pickup) (rising : Ris
   at-zero = refl
 
   -- the first bar that reaches the beat, where bar 2^31 does
-  pub count-least : test map default pickup beat 2147483648 ≡ true → Least (test map default pickup beat) (countAt map default pickup beat)
+  pub count-least : reaches map default pickup beat 2147483648 ≡ true → Least (reaches map default pickup beat) (countAt map default pickup beat)
   unfolding reaches
   count-least e =
       by-flag (belowBeat zeroBeat beat)
@@ -65,7 +65,7 @@ module _ (map : List MeterPoint) (default : ℕ) (pickup : Pickup) (rising : Ris
       none bar h = omega arith
 
   -- 2^32 - 1, where bar 2^31 does not
-  pub count-past : test map default pickup beat 2147483648 ≡ false → countAt map default pickup beat ≡ 4294967295
+  pub count-past : reaches map default pickup beat 2147483648 ≡ false → countAt map default pickup beat ≡ 4294967295
   unfolding reaches
   count-past e =
       by-flag (belowBeat zeroBeat beat)

@@ -22,7 +22,7 @@ use Rattle.meter.specs.Starts.{zeroBeat, afterBars, segments, startOf, t
 use Rattle.meter.specs.Fits.{isAccepted, forwardPickup}
 use Rattle.meter.proofs.Searching.{not-both}
 use Rattle.meter.proofs.Fractions.{not-negative, grows, value-forward, zero-beat, value-right, sum-beat, sum-is, sum-has, below-values, below-same, not-below}
-use Rattle.meter.proofs.Walking.{next-le, next-gt, len-rest, len-same, segments-end, segments-more, checked-end, checked-more}
+use Rattle.meter.proofs.Walking.{next-le, next-gt, bars-stopped, len-rest, len-same, segments-end, segments-more, checked-end, checked-more}
 
 -- ---- whole numbers
 
@@ -59,7 +59,7 @@ module _ (map : List MeterPoint) (default : ℕ) (pickup : Pickup) where
   later-beat : (bar : ℕ) → 0 < bar → isBeat (len bar) ≡ true
   later-beat bar h = subst (λ (b : Beat). isBeat b ≡ true) (len-rest map default pickup bar (λ e. omega arith)) (len-beat (meterAt map default bar))
 
-  pub exact-beat : (bar : ℕ) → isBeat (exact bar) ≡ true
+  pub exact-beat : (bar : ℕ) → isBeat (exactStart map default pickup bar) ≡ true
   unfolding exactStart
   exact-beat zero = zero-beat
   exact-beat (suc bar) = sum-beat (exact bar) (len bar)
@@ -97,7 +97,7 @@ module _ (map : List MeterPoint) (default : ℕ) (pickup : Pickup) where
 
     -- its end
     segment-end : (n : ℕ) (c : Beat) → ((j : ℕ) → i ≤ j → j < i + n → len j ≡ len i) → checkedBars (exact i) (len i) n ≡ accepted c → (c ≡ exact (i + n)) × (afterBars (exact i) (len i) n ≡ c)
-    unfolding checkedBars afterBars
+    unfolding checkedBars
     segment-end n c same e =
         then-accepted (mulBeat (len i) (pos n) 1) (λ span. addBeats (exact i) span) c e
         (λ span p q. (
@@ -105,7 +105,7 @@ module _ (map : List MeterPoint) (default : ℕ) (pickup : Pickup) where
               (sum-value (exact i) span c from (each *ℤ pos n) den exact-above (beat-above span (accepted-beat _ _ span p)) (own-value (exact i) (len i .den))
               (scaled-value (len i) span each (pos n) den len-above (value-right (exact i) (len i)) p) q)
               (exact-bars n same),
-          ap (λ (x : Answer Beat). orMost (addBeats (exact i) (orMost x))) p ∙ ap orMost q,
+          bars-stopped (exact i) (len i) n ∙ ap (λ (x : Answer Beat). orMost (addBeats (exact i) (orMost x))) p ∙ ap orMost q,
         ))
 
   -- the start of the next segment
@@ -152,7 +152,7 @@ module _ (map : List MeterPoint) (default : ℕ) (pickup : Pickup) where
       (ap (λ (x : Answer Beat). segments map default pickup (suc bar) 1 (suc bar) (orMost x)) p ∙ w .0, w .1))
 
   -- a start is the sum of the lengths before it, where no operation of its walk is refused
-  pub start-exact : (bar : ℕ) → isAccepted (checkedStart map default pickup bar) ≡ true → startOf map default pickup bar ≡ exact bar
+  pub start-exact : (bar : ℕ) → isAccepted (checkedStart map default pickup bar) ≡ true → startOf map default pickup bar ≡ exactStart map default pickup bar
   start-exact bar e = by-answer (checkedStart map default pickup bar) refl e
     where
       by-answer : (x : Answer Beat) → checkedStart map default pickup bar ≡ x → isAccepted x ≡ true → startOf map default pickup bar ≡ exact bar

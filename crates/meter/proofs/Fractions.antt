@@ -15,8 +15,7 @@ use Rattle.beats.specs.declared.Beat.{Beat}
 use Rattle.beats.specs.Beats.{isBeat}
 use Rattle.beats.specs.Sums.{addBeats, orderOfBeats, belowBeat}
 use Rattle.beats.specs.Values.{HasValue}
-use Rattle.beats.proofs.Laws.{new-is-beat, new-value, own-value, value-same, beat-above, beat-lowest, below-is, order-same, order-exchanged, order-equal, below-trans, order-values, den-divides}
-use Rattle.beats.proofs.Values.{cross, accepted-is}
+use Rattle.beats.proofs.Laws.{new-is-beat, new-value, own-value, value-same, beat-above, beat-lowest, below-is, order-same, order-exchanged, order-equal, below-trans, order-values, den-divides, cross, accepted-is}
 use Rattle.meter.specs.Starts.{zeroBeat, sumOf}
 use Rattle.meter.proofs.Searching.{by-flag, not-both}
 

@@ -4,11 +4,12 @@ use mathlib.Core.List.{List, [], _∷_}
 use Prim.Native.Nat.{ℕ, zero, suc, min, _-_, _<_, _≤_}
 use native.Mathlib.Nat.{le-refl, le-trans, lt-of-lt-of-le}
 use native.Mathlib.Omega.{arith}
+use lib.IntN.{pos}
 use borrow.Author.Tests.{lt-ltb, le-ltb, le-leb, lt-leb}
 use Rattle.numbers.specs.Answers.{accepted}
 use Rattle.numbers.proofs.Laws.{by-order}
 use Rattle.beats.specs.declared.Beat.{Beat}
-use Rattle.beats.specs.Sums.{addBeats, orMost}
+use Rattle.beats.specs.Sums.{addBeats, mulBeat, orMost}
 use Rattle.meter.specs.declared.MeterPoint.{MeterPoint}
 use Rattle.meter.specs.declared.Pickup.{Pickup}
 use Rattle.meter.specs.Meters.{later, nearer, lastAt, fallback, meterAt, lenOf, pickupOr, barLen, nextChange}
@@ -72,6 +73,11 @@ last-same (point ∷ rest) i j end found h l =
     ∙ last-same rest i j (nearer (point .bar) i end) (later point i found) h l
 
 -- ---- bars of one meter
+
+-- a scaling or an addition that is refused is turned into (2^63 - 1)/1
+pub bars-stopped : (at len : Beat) (n : ℕ) → afterBars at len n ≡ orMost (addBeats at (orMost (mulBeat len (pos n) 1)))
+unfolding afterBars
+bars-stopped at len n = refl
 
 module _ (bar end : ℕ) (meter : MeterPoint) (at : Beat) where
   pub ending-bars : bar < end → ending bar end meter at ≡ afterBars at (lenOf meter) (end - bar)

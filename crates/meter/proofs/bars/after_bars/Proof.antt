@@ -1,11 +1,11 @@
 -- The parts' contracts, one inside the other.
-use mathlib.Core.Path.{ap, _∙_}
+use mathlib.Core.Path.{sym, ap, _∙_}
 use native.Mathlib.Omega.{arith}
 use lib.IntN.{ℤ}
 use borrow.Author.Needs.{needs}
 use Rattle.numbers.proofs.Laws.{read-pos}
 use Rattle.beats.specs.Sums.{addBeats, mulBeat, orMost}
-use Rattle.meter.specs.Starts.{afterBars}
+use Rattle.meter.proofs.Walking.{bars-stopped}
 use Rattle.meter.proofs.bars.after_bars.Statement.{statement}
 use Rattle.meter.proofs.bars.after_bars.Tie as tie
 
@@ -25,13 +25,13 @@ or-most-requires-2 : tie.Need-or-most-requires-2
 or-most-requires-2 c κs = search needs
 
 returns : tie.Need-returns
-unfolding afterBars
 returns c =
     let s = c .before .before .before .before in
     c .or-most2 .ensures
     ∙ ap orMost (c .before .add .ensures
     ∙ ap (addBeats (s .args .at)) (c .before .before .or-most .ensures
     ∙ ap orMost (c .before .before .before .mul .ensures ∙ ap (λ (z : ℤ). mulBeat (s .args .len) z 1) (read-pos (s .args .n) (omega arith)))))
+    ∙ sym (bars-stopped (s .args .at) (s .args .len) (s .args .n))
 
 pub after-bars-spec : {M : Type 1} → statement M
 after-bars-spec =
