@@ -2,6 +2,8 @@
 //! A layer is a module with the same rows, over the same inputs.
 
 mod benching;
+mod meter;
+mod tempo;
 mod units;
 
 use benching::Asked;
@@ -15,6 +17,8 @@ fn main() {
     let asked = Asked::of(rest);
     match layer.as_str() {
         "units" => units::rows(&asked),
+        "meter" => meter::rows(&asked),
+        "tempo" => tempo::rows(&asked),
         _ => {
             eprintln!("twin: no layer {layer}");
             std::process::exit(2);

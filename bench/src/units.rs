@@ -1,7 +1,7 @@
 //! The twin of crates/bench_units, which says what each row is. The original has no second form without tests, so the
 //! rows `add`, `order` and `frame_of` are its `checked_add`, `cmp` and `beat_to_frames` again.
 
-use crate::benching::{Asked, INPUTS, inputs};
+use crate::benching::{Asked, INPUTS, beat_word, inputs};
 use std::cmp::Ordering;
 use tono_core::units::{Beat, BeatError, SampleRate, Tempo, beat_to_frames};
 
@@ -64,11 +64,6 @@ fn tempo(r: u64, _: u64) -> f32 {
 
 fn rate(_: u64, s: u64) -> u32 {
     [22050, 44100, 48000, 96000][(s % 4) as usize]
-}
-
-fn beat_word(b: Beat) -> u64 {
-    let sign = u64::from(b.num < 0);
-    b.num.unsigned_abs() ^ sign << 63 ^ u64::from(b.den) << 32
 }
 
 fn sum_word(answer: Result<Beat, BeatError>) -> u64 {

@@ -20,12 +20,10 @@ pub enum Row {
     FrameOf,
 }
 
-// The numerator's size, its sign in the highest bit, and the denominator in the upper half.
 fn beat_word(b: Beat) -> u64 {
     let num = b.num;
     let den = b.den;
-    let sign = numbers::negative(num) as u64;
-    numbers::magnitude(num) ^ sign << 63 ^ (den as u64) << 32
+    benching::fraction_word(num, den)
 }
 
 // A refusal counts as its number in document 01.

@@ -45,6 +45,20 @@ pub fn input_after(i: u64) -> usize
     ((i % 8192 + 1) % 8192) as usize
 }
 
+// Where input k lies, of 8,192 places in a row. The first lies in the middle, and each next one a
+// golden section further, round and round. So the first seven are spread as all of them are, and a
+// call that is too slow for more turns costs about as much a turn as it would over all.
+pub fn place(k: usize) -> u32 {
+    ((4096 + 5063 * (k % 8192)) % 8192) as u32
+}
+
+// A fraction as one word: the numerator's size, its sign in the highest bit, and the denominator in
+// the upper half.
+pub fn fraction_word(num: i64, den: u32) -> u64 {
+    let sign = numbers::negative(num) as u64;
+    numbers::magnitude(num) ^ sign << 63 ^ (den as u64) << 32
+}
+
 fn wide(digit: u8) -> u64 {
     digit as u64
 }
@@ -78,14 +92,19 @@ pub fn asked(call: &[u8], size: &[u8]) -> bool {
     }
 }
 
-// How often a row is to make its call.
-pub fn turns() -> u64 {
+// How often a row is to make its call: `few` times where nobody asked it by name, fewer than others
+// where a call of the original's is slow.
+pub fn turns_or(few: u64) -> u64 {
     if os::arg_count() < 4 {
-        return FEW;
+        return few;
     }
     let mut buf = io::buffer();
     let n = os::arg(3, &mut buf);
     number(&buf[..n])
+}
+
+pub fn turns() -> u64 {
+    turns_or(FEW)
 }
 
 // Writes the line of a row.
