@@ -1,0 +1,13 @@
+pub mod Again
+pub mod Calls
+pub mod Denominators
+pub mod Laws
+pub mod Listing
+pub mod Passing
+pub mod Points
+pub mod Readings
+pub mod Sound
+pub mod Tempos
+pub mod Tests
+pub mod Walking
+pub mod Wholes

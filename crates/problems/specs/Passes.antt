@@ -1,0 +1,117 @@
+-- A pass over a map, which counts its records or writes them too, and the walk that passes over the points of a meter map twice.
+use mathlib.Core.Bool.{Bool, true, false, not, cond, _&&_}
+use mathlib.Core.Path.{_≡_}
+use mathlib.Core.List.{List, [], _∷_, _++_}
+use Prim.Native.Nat.{ℕ, suc, _+_, _*_, _/_, _≤_, _<_}
+use lib.Dec.{leb, ltb, eqb}
+use lib.IntN.{ℤ, pos}
+use lib.ListN.{length, getD}
+use lib.Seq.{sets}
+use Rattle.numbers.specs.Answers.{Answer, accepted, refused}
+use Rattle.beats.specs.declared.Beat.{Beat}
+use Rattle.beats.specs.Beats.{wholeBeat}
+use Rattle.beats.specs.Sums.{belowBeat}
+use Rattle.meter.specs.declared.MeterPoint.{MeterPoint}
+use Rattle.problems.specs.declared.walk.State.{State}
+use Rattle.problems.specs.Problems.{Problem, Listed, when, flat, meterPoint, tempoBits}
+
+-- ---- a part of a pass, from a count of records on
+
+-- the words afterwards: a pass that writes has put its records behind those before
+abbrev pub put : Bool → List ℕ → ℕ → List Problem → List ℕ
+put writing out count problems = cond writing (sets out (3 * count) (flat problems)) out
+
+-- the count stays a word, and a pass that writes has room for the records
+pub record Ready (writing : Bool) (out : List ℕ) (count : ℕ) (problems : List Problem) : Type 0 where
+  pub fits : count + length problems ≤ 4294967295
+  pub room : writing ≡ true → 3 * (count + length problems) ≤ length out
+
+-- the records are counted, and put
+pub record Passed (writing : Bool) (before : List ℕ) (count : ℕ) (problems : List Problem) (after : List ℕ) (next : ℕ) : Type 0 where
+  pub counted : next ≡ count + length problems
+  pub words : after ≡ put writing before count problems
+
+-- ---- a tempo map of n points
+
+abbrev pub listedAt : Beat → ℕ → Listed
+listedAt at bits = record { at = at; bits = bits }
+
+abbrev pub beatAt : List ℤ → List ℕ → ℕ → Beat
+beatAt nums dens i = record { num = getD nums i (pos 0); den = getD dens i 0 }
+
+-- three lists of one length, which is not too long
+pub record Even (nums : List ℤ) (dens tempos : List ℕ) : Type 0 where
+  pub dens-long : length dens ≡ length nums
+  pub tempos-long : length tempos ≡ length nums
+  pub short : length nums ≤ 65536
+
+-- the records of the first point, with those of the map
+unfoldable pub tempoFirst : ℕ → Listed → List Problem
+tempoFirst n point =
+    when (ltb 1024 n) 6 0 n
+    ++ (when (belowBeat (wholeBeat (pos 0)) (point .at)) 7 0 0
+    ++ (when (belowBeat (point .at) (wholeBeat (pos 0))) 7 0 0
+    ++ tempoBits 0 point))
+
+-- the records of a point after a point at the beat `before`
+unfoldable pub tempoLater : ℕ → Beat → Listed → List Problem
+tempoLater index before point = tempoBits index point ++ when (not (belowBeat before (point .at))) 9 index 0
+
+unfoldable pub tempoAt : ℕ → ℕ → Beat → Listed → List Problem
+tempoAt n index before point = cond (eqb index 0) (tempoFirst n point) (tempoLater index before point)
+
+-- each point from an index on
+unfoldable pub tempoFrom : ℕ → ℕ → Beat → List Listed → List Problem
+tempoFrom n index before [] = []
+tempoFrom n index before (point ∷ rest) = tempoAt n index before point ++ tempoFrom n (suc index) (point .at) rest
+
+-- ---- a meter map of n points
+
+abbrev pub pointOf : ℕ → ℕ → ℕ → MeterPoint
+pointOf bar numerator denominator = record { bar = bar; numerator = numerator; denominator = denominator }
+
+-- the records of the map, which stand before those of the first point
+unfoldable pub meterHead : ℕ → ℕ → ℕ → List Problem
+meterHead n index bar = cond (eqb index 0) (when (ltb 256 n) 1 0 n ++ when (not (eqb bar 0)) 2 0 0) []
+
+unfoldable pub meterAt : ℕ → ℕ → ℕ → MeterPoint → List Problem
+meterAt n index low point = meterHead n index (point .bar) ++ meterPoint index low point
+
+-- each point from an index on
+unfoldable pub meterFrom : ℕ → ℕ → ℕ → List MeterPoint → List Problem
+meterFrom n index low [] = []
+meterFrom n index low (point ∷ rest) = meterAt n index low point ++ meterFrom n (suc index) (suc (point .bar)) rest
+
+-- ---- the walk over meter points
+
+-- the first pass counts; no point is walked where there are too many
+abbrev pub begun : ℕ → ℕ → State
+begun n words = record { n = n; room = words / 3; at = cond (leb n 65536) 0 n; writing = false; low = 0; count = 0 }
+
+-- the first pass ends, and there is room for its count of records
+abbrev pub restarts : State → ℕ → Bool
+restarts s count = eqb (s .at + 1) (s .n) && (not (s .writing) && leb count (s .room))
+
+-- the state behind a point: where the walk restarts, the second pass begins
+abbrev pub turned : State → ℕ → ℕ → State
+turned s count bar =
+    cond (restarts s count)
+    (record { n = s .n; room = s .room; at = 0; writing = true; low = 0; count = 0 })
+    (record { n = s .n; room = s .room; at = s .at + 1; writing = s .writing; low = bar + 1; count = count })
+
+-- the records of the point that the walk stands at
+abbrev pub here : State → MeterPoint → List Problem
+here s point = meterAt (s .n) (s .at) (s .low) point
+
+abbrev pub stepped : State → MeterPoint → State
+stepped s point = turned s (s .count + length (here s point)) (point .bar)
+
+-- a point may be walked
+pub record Walks (out : List ℕ) (s : State) (point : MeterPoint) : Type 0 where
+  pub inside : s .at < s .n
+  pub short : s .n ≤ 65536
+  pub ready : Ready (s .writing) out (s .count) (here s point)
+
+-- the answer at the end
+abbrev pub finished : State → Answer ℕ
+finished s = cond (leb (s .n) 65536) (cond (leb (s .count) (s .room)) (accepted (s .count)) (refused 8 [])) (refused 4 [])

@@ -1,0 +1,60 @@
+// The problems of a meter map and of a tempo map, as records of three words: code, index, value.
+// Every refusal is decided before the first word is written.
+use meter::MeterPoint;
+ghost use mathlib.Core.Path.{_≡_};
+ghost use Rattle.problems.specs.Answers.{meterAnswer, meterAfter, tempoAnswer, tempoAfter};
+ghost use Rattle.problems.specs.Readings.{readProblems};
+
+pub mod records;
+pub mod tempo;
+pub mod walk;
+
+pub enum ProblemsAnswer {
+    Problems(u32),
+    Uneven,
+    TooLong,
+    NotBeat,
+    NoRoom,
+}
+
+// The problems of a tempo map, which is three parallel lists: the beats' numerators and
+// denominators, and the bits of the tempos.
+pub fn tempo_map_problems(
+    nums: &[i64],
+    dens: &[u32],
+    tempos: &[u32],
+    out: &mut [u32],
+) -> ProblemsAnswer
+    ensures { λ r. ⌜ (readProblems r ≡ tempoAnswer (now (nums .entry)) (now (dens .entry)) (now (tempos .entry)) (now (out .entry))) × (now (out .exit) ≡ tempoAfter (now (nums .entry)) (now (dens .entry)) (now (tempos .entry)) (now (out .entry))) ⌝ }
+{
+    if dens.len() != nums.len() {
+        return ProblemsAnswer::Uneven;
+    }
+    if tempos.len() != nums.len() {
+        return ProblemsAnswer::Uneven;
+    }
+    if nums.len() > 65_536 {
+        return ProblemsAnswer::TooLong;
+    }
+    if !tempo::all_beats(nums, dens) {
+        return ProblemsAnswer::NotBeat;
+    }
+    let count = tempo::pass(nums, dens, tempos, out, false);
+    if count as usize > out.len() / 3 {
+        return ProblemsAnswer::NoRoom;
+    }
+    ProblemsAnswer::Problems(tempo::pass(nums, dens, tempos, out, true))
+}
+
+// The problems of a meter map: each point is taken apart and handed to the walk.
+pub fn meter_map_problems(points: &[MeterPoint], out: &mut [u32]) -> ProblemsAnswer
+    ensures { λ r. ⌜ (readProblems r ≡ meterAnswer (now (points .entry)) (now (out .entry))) × (now (out .exit) ≡ meterAfter (now (points .entry)) (now (out .entry))) ⌝ }
+{
+    let mut s = walk::begin(points.len(), out.len());
+    while s.at < s.n {
+        let i = s.at;
+        let p = points[i];
+        s = walk::step(&mut *out, s, p.bar, p.numerator, p.denominator);
+    }
+    walk::finish(s)
+}
