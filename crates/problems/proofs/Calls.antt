@@ -5,7 +5,7 @@ use mathlib.Core.List.{List, []}
 use Prim.Native.Nat.{ℕ, _/_, _≤_, _<_}
 use native.Mathlib.Omega.{arith}
 use borrow.Author.Tests.{le-leb, lt-leb, eq-eqb}
-use lib.Dec.{eqb}
+use lib.Dec.{leb, eqb}
 use lib.IntN.{ℤ}
 use lib.ListN.{length}
 use Rattle.numbers.specs.Answers.{Answer, accepted, refused}
@@ -52,9 +52,17 @@ module _ (nums : List ℤ) (dens tempos out : List ℕ) where
   pub long : length dens ≡ length nums → length tempos ≡ length nums → 65536 < length nums → Told (refused 4 []) out
   long d t over = (rw (even-is d t, lt-leb (length nums) 65536 over), rw (even-is d t, lt-leb (length nums) 65536 over))
 
-  pub no-beats : Even nums dens tempos → allBeats (listed nums dens tempos) ≡ false → Told (refused 1 []) out
-  no-beats h e = (rw (even-is (h .dens-long) (h .tempos-long), le-leb (length nums) 65536 (h .short), e), rw (even-is (h .dens-long) (h .tempos-long), le-leb (length nums) 65536 (h .short), e))
+  -- the tests before the beats pass
+  module _ (h : Even nums dens tempos) where
+    passes : even nums dens tempos ≡ true
+    passes = even-is (h .dens-long) (h .tempos-long)
 
-  pub told : Even nums dens tempos → allBeats (listed nums dens tempos) ≡ true → {answer : Answer ℕ} {after : List ℕ}
-      → (answer ≡ counted (tempoProblems (listed nums dens tempos)) out) × (after ≡ written (tempoProblems (listed nums dens tempos)) out) → Told answer after
-  told h e said = (rw (even-is (h .dens-long) (h .tempos-long), le-leb (length nums) 65536 (h .short), e) (said .0), rw (even-is (h .dens-long) (h .tempos-long), le-leb (length nums) 65536 (h .short), e) (said .1))
+    short : leb (length nums) 65536 ≡ true
+    short = le-leb (length nums) 65536 (h .short)
+
+    pub no-beats : allBeats (listed nums dens tempos) ≡ false → Told (refused 1 []) out
+    no-beats e = (rw (passes, short, e), rw (passes, short, e))
+
+    pub told : allBeats (listed nums dens tempos) ≡ true → {answer : Answer ℕ} {after : List ℕ}
+        → (answer ≡ counted (tempoProblems (listed nums dens tempos)) out) × (after ≡ written (tempoProblems (listed nums dens tempos)) out) → Told answer after
+    told e said = (rw (passes, short, e) (said .0), rw (passes, short, e) (said .1))

@@ -14,7 +14,7 @@ use Rattle.beats.specs.Sums.{belowBeat}
 use Rattle.meter.specs.declared.MeterPoint.{MeterPoint}
 use Rattle.meter.specs.Fits.{goodDen}
 use Rattle.problems.specs.Problems.{Problem, Listed, when, meterPoint, meterPoints, meterProblems, soundTempo, tempoBits, tempoPointsAfter, tempoProblems}
-use Rattle.problems.specs.Passes.{tempoFirst, tempoLater, tempoAt, tempoFrom, meterHead, meterAt, meterFrom}
+use Rattle.problems.specs.Passes.{tempoStart, tempoFirst, tempoLater, tempoAt, tempoFrom, meterHead, meterAt, meterFrom}
 use Rattle.problems.proofs.Points.{head-later, tempo-later}
 
 above : (index : ℕ) → suc index ≡ 0 → ⊥
@@ -31,7 +31,7 @@ tempo-after n index before (point ∷ rest) =
     ∙ ap (λ (l : List Problem). tempoBits (suc index) point ++ (when (not (belowBeat before (point .at))) 9 (suc index) 0 ++ l)) (tempo-after n (suc index) (point .at) rest)
 
 pub tempo-whole : (before : Beat) (points : List Listed) → tempoFrom (length points) 0 before points ≡ tempoProblems points
-unfolding tempoFrom tempoAt tempoFirst tempoProblems
+unfolding tempoFrom tempoAt tempoFirst tempoStart tempoProblems
 tempo-whole before [] = refl
 tempo-whole before (point ∷ rest) = simp (append-assoc, tempo-after (length (point ∷ rest)) 0 (point .at) rest)
 
@@ -59,21 +59,17 @@ tempo-bits-few : (index : ℕ) (point : Listed) → length (tempoBits index poin
 unfolding tempoBits
 tempo-bits-few index point = when-few (not (soundTempo (ofBits binary32 (point .bits)))) 8 index (point .bits)
 
+tempo-start-few : (at : Beat) → length (tempoStart at) ≤ 2
+unfolding tempoStart
+tempo-start-few at =
+    omega (arith, length-append (when (belowBeat (wholeBeat (pos 0)) at) 7 0 0) (when (belowBeat at (wholeBeat (pos 0))) 7 0 0), when-few (belowBeat (wholeBeat (pos 0)) at) 7 0 0, when-few (belowBeat at (wholeBeat (pos 0))) 7 0 0)
+
 tempo-at-few : (n index : ℕ) (before : Beat) (point : Listed) → length (tempoAt n index before point) ≤ 5
 unfolding tempoAt tempoFirst tempoLater
 tempo-at-few n index before point = by-place (eqb index 0)
   where
     by-place : (first : Bool) → length (cond first (tempoFirst n point) (tempoLater index before point)) ≤ 5
-    by-place true = omega (
-      arith,
-      length-append (when (ltb 1024 n) 6 0 n) (when (belowBeat (wholeBeat (pos 0)) (point .at)) 7 0 0 ++ (when (belowBeat (point .at) (wholeBeat (pos 0))) 7 0 0 ++ tempoBits 0 point)),
-      length-append (when (belowBeat (wholeBeat (pos 0)) (point .at)) 7 0 0) (when (belowBeat (point .at) (wholeBeat (pos 0))) 7 0 0 ++ tempoBits 0 point),
-      length-append (when (belowBeat (point .at) (wholeBeat (pos 0))) 7 0 0) (tempoBits 0 point),
-      when-few (ltb 1024 n) 6 0 n,
-      when-few (belowBeat (wholeBeat (pos 0)) (point .at)) 7 0 0,
-      when-few (belowBeat (point .at) (wholeBeat (pos 0))) 7 0 0,
-      tempo-bits-few 0 point,
-    )
+    by-place true = omega (arith, length-append (when (ltb 1024 n) 6 0 n) (tempoStart (point .at) ++ tempoBits 0 point), length-append (tempoStart (point .at)) (tempoBits 0 point), when-few (ltb 1024 n) 6 0 n, tempo-start-few (point .at), tempo-bits-few 0 point)
     by-place false = omega (arith, length-append (tempoBits index point) (when (not (belowBeat before (point .at))) 9 index 0), tempo-bits-few index point, when-few (not (belowBeat before (point .at))) 9 index 0)
 
 tempo-from-few : (n index : ℕ) (before : Beat) (points : List Listed) → length (tempoFrom n index before points) ≤ 5 * length points

@@ -45,13 +45,13 @@ pub record Even (nums : List ℤ) (dens tempos : List ℕ) : Type 0 where
   pub tempos-long : length tempos ≡ length nums
   pub short : length nums ≤ 65536
 
+-- the record of a first beat that is not 0
+unfoldable pub tempoStart : Beat → List Problem
+tempoStart at = when (belowBeat (wholeBeat (pos 0)) at) 7 0 0 ++ when (belowBeat at (wholeBeat (pos 0))) 7 0 0
+
 -- the records of the first point, with those of the map
 unfoldable pub tempoFirst : ℕ → Listed → List Problem
-tempoFirst n point =
-    when (ltb 1024 n) 6 0 n
-    ++ (when (belowBeat (wholeBeat (pos 0)) (point .at)) 7 0 0
-    ++ (when (belowBeat (point .at) (wholeBeat (pos 0))) 7 0 0
-    ++ tempoBits 0 point))
+tempoFirst n point = when (ltb 1024 n) 6 0 n ++ (tempoStart (point .at) ++ tempoBits 0 point)
 
 -- the records of a point after a point at the beat `before`
 unfoldable pub tempoLater : ℕ → Beat → Listed → List Problem

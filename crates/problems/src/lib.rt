@@ -5,9 +5,9 @@ ghost use mathlib.Core.Path.{_≡_};
 ghost use Rattle.problems.specs.Answers.{meterAnswer, meterAfter, tempoAnswer, tempoAfter};
 ghost use Rattle.problems.specs.Readings.{readProblems};
 
-pub mod records;
-pub mod tempo;
-pub mod walk;
+mod records;
+mod tempo;
+mod walk;
 
 pub enum ProblemsAnswer {
     Problems(u32),

@@ -8,7 +8,7 @@ ghost use lib.Ieee.{binary32, ofBits};
 ghost use lib.ListN.{length};
 ghost use Rattle.problems.specs.Problems.{soundTempo, tempoBits, listed, tempoProblems};
 ghost use Rattle.problems.specs.Answers.{allBeats};
-ghost use Rattle.problems.specs.Passes.{Ready, Passed, listedAt, beatAt, Even, tempoFirst, tempoLater, tempoAt};
+ghost use Rattle.problems.specs.Passes.{Ready, Passed, listedAt, beatAt, Even, tempoStart, tempoFirst, tempoLater, tempoAt};
 
 // Whether the bits are those of a tempo that is finite and above 0.
 fn sound_tempo(bits: u32) -> bool
@@ -27,17 +27,25 @@ fn own(out: &mut [u32], writing: bool, count: u32, index: u32, at: Beat, bits: u
     records::note(out, writing, count, bad, 8, index, bits)
 }
 
+// The record of a first beat that is not 0.
+fn start(out: &mut [u32], writing: bool, count: u32, at: Beat) -> u32
+    requires { ⌜ Ready writing (now out) count (tempoStart at) ⌝ }
+    ensures { λ r. ⌜ Passed writing (now (out .entry)) count (tempoStart at) (now (out .exit)) r ⌝ }
+{
+    let above = sums::below(Beat::zero(), at);
+    let a = records::note(out, writing, count, above, 7, 0, 0);
+    let below = sums::below(at, Beat::zero());
+    records::note(out, writing, a, below, 7, 0, 0)
+}
+
 // The records of the map and of its first point.
 fn first(out: &mut [u32], writing: bool, count: u32, n: u32, at: Beat, bits: u32) -> u32
     requires { ⌜ Ready writing (now out) count (tempoFirst n (listedAt at bits)) ⌝ }
     ensures { λ r. ⌜ Passed writing (now (out .entry)) count (tempoFirst n (listedAt at bits)) (now (out .exit)) r ⌝ }
 {
-    let above = sums::below(Beat::zero(), at);
-    let below = sums::below(at, Beat::zero());
     let a = records::note(out, writing, count, 1024 < n, 6, 0, n);
-    let b = records::note(out, writing, a, above, 7, 0, 0);
-    let c = records::note(out, writing, b, below, 7, 0, 0);
-    own(out, writing, c, 0, at, bits)
+    let b = start(out, writing, a, at);
+    own(out, writing, b, 0, at, bits)
 }
 
 // The records of a later point.

@@ -9,6 +9,8 @@ ghost use Rattle.problems.specs.Problems.{meterPoint};
 ghost use Rattle.problems.specs.Passes.{Ready, Passed, Walks, put, pointOf, meterHead, meterAt, begun, restarts, turned, here, stepped, finished};
 ghost use Rattle.problems.specs.Readings.{readProblems};
 
+// Where the walk stands among n points, which pass it is, and the records so far of those that
+// there is room for.
 pub struct State {
     pub n: usize,
     pub room: usize,
