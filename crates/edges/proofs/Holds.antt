@@ -6,8 +6,10 @@ use Rattle.beats.specs.Sums.{fitted}
 use Rattle.meter.specs.Meters.{pointsOf, later, lastAt, lenOf, barLen, nearer, nextChange}
 use Rattle.meter.specs.Starts.{afterBars, segments, startOf}
 use Rattle.meter.specs.Counts.{doubling, halving, searched, reaches, countAt}
+use Rattle.transport.specs.Transports.{sound}
+use Rattle.transport.specs.Advances.{advanced}
 use Rattle.edges.specs.Edges.{table, answers, givens}
 
 pub holds : answers table ≡ givens table
-unfolding newBeat lowest gcdOf remainders fitted pointsOf later lastAt lenOf barLen nearer nextChange afterBars segments startOf doubling halving searched reaches countAt
+unfolding newBeat lowest gcdOf remainders fitted pointsOf later lastAt lenOf barLen nearer nextChange afterBars segments startOf doubling halving searched reaches countAt sound advanced
 holds = refl

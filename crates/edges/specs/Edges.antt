@@ -1,8 +1,10 @@
 -- Document 01's list "Both sides of each edge": the cases that it marks to be proved, as one table of questions and answers.
 -- proofs/Holds.antt has the one statement, that each question's definition gives the answer beside it.
+use mathlib.Core.Bool.{Bool, true, false}
 use mathlib.Core.List.{List, [], _∷_}
 use Prim.Native.Nat.{ℕ}
 use lib.IntN.{ℤ, pos, negsuc, negℤ}
+use lib.Ieee.{fin}
 use Rattle.numbers.specs.declared.exact.Order.{Order}
 use Rattle.numbers.specs.declared.exact.Order.the-variants.{Less, Equal, Greater}
 use Rattle.numbers.specs.Answers.{Answer, accepted, refused}
@@ -12,6 +14,12 @@ use Rattle.beats.specs.Sums.{addAnswer, orderAnswer}
 use Rattle.meter.specs.declared.Pickup.{Pickup}
 use Rattle.meter.specs.declared.Pickup.the-variants.{Absent, Present}
 use Rattle.meter.specs.Answers.{countAnswer}
+use Rattle.transport.specs.declared.PlayState.the-variants.{Playing}
+use Rattle.transport.specs.declared.LoopRange.the-variants.{On}
+use Rattle.transport.specs.declared.Transport.{Transport}
+use Rattle.transport.specs.Transports.{made, movedTo, loopingBy}
+use Rattle.transport.specs.Changes.{Handed}
+use Rattle.transport.specs.Advances.{Moves, advanceAnswer}
 
 -- ---- questions
 
@@ -20,6 +28,7 @@ pub data Question : Type 0 where
   add : Beat → Beat → Question
   order : Beat → Beat → Question
   count : List ℕ → ℕ → Pickup → Beat → Question
+  advance : Transport → ℕ → Question
 
 -- ---- answers: the values, as whole numbers
 
@@ -39,11 +48,24 @@ ofOrder Greater = pos 1 ∷ []
 abbrev pub ofNumber : ℕ → List ℤ
 ofNumber n = pos n ∷ []
 
+-- 1 or 0
+abbrev pub ofBool : Bool → ℤ
+ofBool true = pos 1
+ofBool false = pos 0
+
+-- where it stands, whether it wrapped, whether it finished
+abbrev pub standsAt : ℕ → Bool → Bool → List ℤ
+standsAt position wrapped finished = pos position ∷ ofBool wrapped ∷ ofBool finished ∷ []
+
+abbrev pub ofAdvance : Handed Moves → Answer (List ℤ)
+ofAdvance handed = read (λ moves. standsAt (handed .transport .position) (moves .0) (moves .1)) (handed .answer)
+
 abbrev pub answer : Question → Answer (List ℤ)
 answer (new num den) = accepted (ofBeat (newBeat num den))
 answer (add a b) = read ofBeat (addAnswer a b)
 answer (order a b) = read ofOrder (orderAnswer a b)
 answer (count words default pickup beat) = read ofNumber (countAnswer words default pickup beat)
+answer (advance t frames) = ofAdvance (advanceAnswer t frames)
 
 -- ---- the table
 
@@ -66,6 +88,10 @@ minus n = negℤ (pos n)
 abbrev pub fourFour : List ℕ
 fourFour = 0 ∷ 4 ∷ 4 ∷ []
 
+-- playing at a position, with the loop 100..300 and the length 1000
+abbrev pub looped : ℕ → Transport
+looped position = movedTo (loopingBy (made 48000 (fin false 15 (pos 3)) 4 1000 Absent) (On 100 300)) position Playing
+
 abbrev pub table : List Edge
 table =
     edge (new (pos 6) 8) (accepted (ofBeat (pos 3 // 4)))
@@ -81,6 +107,7 @@ table =
     ∷ edge (count fourFour 4 (Present (pos 0 // 1)) (pos 1 // 2)) (accepted (ofNumber 2))
     ∷ edge (count fourFour 4 Absent (pos 8589934592 // 1)) (accepted (ofNumber 2147483648))
     ∷ edge (count fourFour 4 Absent (pos 8589934593 // 1)) (accepted (ofNumber 4294967295))
+    ∷ edge (advance (looped 350) 0) (accepted (standsAt 150 true false))
     ∷ []
 
 -- ---- the statement

@@ -1,0 +1,20 @@
+-- The same transport at the frame.
+use mathlib.Core.Path.{ap, _∙_}
+use borrow.Author.Needs.{needs}
+use Rattle.numbers.specs.Answers.{accepted}
+use Rattle.transport.specs.declared.Transport.{Transport}
+use Rattle.transport.specs.Changes.{ifSound}
+use Rattle.transport.proofs.Transport.seek_frame.Statement.{statement}
+use Rattle.transport.proofs.Transport.seek_frame.Tie as tie
+
+sought-requires : tie.Need-sought-requires
+sought-requires c κs = search needs
+
+if-sound-requires : tie.Need-if-sound-requires
+if-sound-requires c κs = search needs
+
+returns : tie.Need-returns
+returns c = c .if-sound .ensures ∙ ap (λ (new : Transport). ifSound (c .before .before .args .self) (accepted new)) (c .before .sought .ensures)
+
+pub seek-frame-spec : {M : Type 1} → statement M
+seek-frame-spec = tie.close (tie.spec sought-requires if-sound-requires returns)

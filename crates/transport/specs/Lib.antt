@@ -1,0 +1,5 @@
+pub mod Transports
+pub mod Changes
+pub mod Advances
+pub mod Readings
+pub mod Promise
