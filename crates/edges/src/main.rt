@@ -7,6 +7,7 @@ use meter::BarAnswer;
 use meter::CountAnswer;
 use meter::Pickup;
 use numbers::exact::Order;
+use problems::ProblemsAnswer;
 
 fn text(s: &[u8]) {
     io::write_all(1, s);
@@ -70,6 +71,28 @@ fn print_start(a: BarAnswer) {
     }
 }
 
+// The first record of the problems, or that there is none.
+fn print_first(count: u32, code: u32, value: u32) {
+    if count == 0 {
+        text(b"no problem\n");
+    } else {
+        text(b"problem ");
+        io::print_decimal(1, code as u64);
+        text(b", value ");
+        print_number(value as u64);
+    }
+}
+
+fn print_problem(a: ProblemsAnswer, code: u32, value: u32) {
+    match a {
+        ProblemsAnswer::Problems(count) => print_first(count, code, value),
+        ProblemsAnswer::Uneven => text(b"refused 3\n"),
+        ProblemsAnswer::TooLong => text(b"refused 4\n"),
+        ProblemsAnswer::NotBeat => text(b"refused 1\n"),
+        ProblemsAnswer::NoRoom => text(b"refused 8\n"),
+    }
+}
+
 fn beat_edges() {
     text(b"new(6, 8): ");
     print_beat(Beat::new(6, 8));
@@ -119,8 +142,28 @@ fn fine_pickup() {
     print_start(meter::beat_at_bar(&words, 4, pickup, 17));
 }
 
+// The problems of a map of one point with this denominator.
+fn denominator(den: u32) {
+    let words = [0u32, 4, den];
+    let mut out = [0u32; 3];
+    let answer = points::flat_problems(&words, &mut out);
+    print_problem(answer, out[0], out[2]);
+}
+
+fn denominator_edges() {
+    text(b"denominator 1: ");
+    denominator(1);
+    text(b"denominator 64: ");
+    denominator(64);
+    text(b"denominator 128: ");
+    denominator(128);
+    text(b"denominator 0: ");
+    denominator(0);
+}
+
 fn main() {
     beat_edges();
     count_edges();
     fine_pickup();
+    denominator_edges();
 }

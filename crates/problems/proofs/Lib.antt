@@ -8,6 +8,5 @@ pub mod Points
 pub mod Readings
 pub mod Sound
 pub mod Tempos
-pub mod Tests
 pub mod Walking
 pub mod Wholes

@@ -18,11 +18,14 @@ use Rattle.problems.specs.Answers.{counted, meterAnswer, meterAfter}
 use Rattle.problems.specs.Passes.{Passed, Walks, put, pointOf, meterFrom, begun, restarts, here, stepped, finished}
 use Rattle.problems.proofs.Calls.{ready, never, too-many, enough}
 use Rattle.problems.proofs.Passing.{Passing, begin, ready-next, on, done, passed-none}
-use Rattle.problems.proofs.Tests.{parts}
 use Rattle.problems.proofs.Wholes.{meter-whole, meter-few}
 
 abbrev pub zeros : MeterPoint
 zeros = pointOf 0 0 0
+
+parts : (a b : Bool) → (a && b) ≡ true → (a ≡ true) × (b ≡ true)
+parts true b e = (refl, e)
+parts false b e = (e, cc)
 
 -- how many turns are left at most
 abbrev pub turns : State → ℕ

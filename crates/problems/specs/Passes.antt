@@ -39,12 +39,6 @@ listedAt at bits = record { at = at; bits = bits }
 abbrev pub beatAt : List ℤ → List ℕ → ℕ → Beat
 beatAt nums dens i = record { num = getD nums i (pos 0); den = getD dens i 0 }
 
--- three lists of one length, which is not too long
-pub record Even (nums : List ℤ) (dens tempos : List ℕ) : Type 0 where
-  pub dens-long : length dens ≡ length nums
-  pub tempos-long : length tempos ≡ length nums
-  pub short : length nums ≤ 65536
-
 -- the record of a first beat that is not 0
 unfoldable pub tempoStart : Beat → List Problem
 tempoStart at = when (belowBeat (wholeBeat (pos 0)) at) 7 0 0 ++ when (belowBeat at (wholeBeat (pos 0))) 7 0 0

@@ -1,12 +1,13 @@
 // The problems of a meter map and of a tempo map, as records of three words: code, index, value.
 // Every refusal is decided before the first word is written.
 use meter::MeterPoint;
+use tempo::MapTest;
 ghost use mathlib.Core.Path.{_≡_};
 ghost use Rattle.problems.specs.Answers.{meterAnswer, meterAfter, tempoAnswer, tempoAfter};
 ghost use Rattle.problems.specs.Readings.{readProblems};
 
+mod changes;
 mod records;
-mod tempo;
 mod walk;
 
 pub enum ProblemsAnswer {
@@ -27,23 +28,12 @@ pub fn tempo_map_problems(
 ) -> ProblemsAnswer
     ensures { λ r. ⌜ (readProblems r ≡ tempoAnswer (now (nums .entry)) (now (dens .entry)) (now (tempos .entry)) (now (out .entry))) × (now (out .exit) ≡ tempoAfter (now (nums .entry)) (now (dens .entry)) (now (tempos .entry)) (now (out .entry))) ⌝ }
 {
-    if dens.len() != nums.len() {
-        return ProblemsAnswer::Uneven;
+    match tempo::test(nums, dens, tempos) {
+        MapTest::Uneven => ProblemsAnswer::Uneven,
+        MapTest::TooLong => ProblemsAnswer::TooLong,
+        MapTest::NotBeat => ProblemsAnswer::NotBeat,
+        MapTest::Sound => changes::list(nums, dens, tempos, out),
     }
-    if tempos.len() != nums.len() {
-        return ProblemsAnswer::Uneven;
-    }
-    if nums.len() > 65_536 {
-        return ProblemsAnswer::TooLong;
-    }
-    if !tempo::all_beats(nums, dens) {
-        return ProblemsAnswer::NotBeat;
-    }
-    let count = tempo::pass(nums, dens, tempos, out, false);
-    if count as usize > out.len() / 3 {
-        return ProblemsAnswer::NoRoom;
-    }
-    ProblemsAnswer::Problems(tempo::pass(nums, dens, tempos, out, true))
 }
 
 // The problems of a meter map: each point is taken apart and handed to the walk.

@@ -4,10 +4,10 @@ use Rattle.ask_tempo.proofs.main.Statement.{statement}
 use Rattle.ask_tempo.proofs.main.Tie as tie
 
 abbrev Inv-loop : tie.InvT-loop
-Inv-loop chunk₀ q₀ nums₀ lent₀ out₀ at₀ left₀ to₀ turns₀ chunk q nums lent out at left to turns = Unit {0}
+Inv-loop chunk₀ q₀ nums₀ out₀ at₀ left₀ to₀ turns₀ chunk q nums out at left to turns = Unit {0}
 
 abbrev μ-loop : tie.MeasureT-loop
-μ-loop chunk₀ q₀ nums₀ lent₀ out₀ at₀ left₀ to₀ turns₀ chunk q nums lent out at left to turns = turns
+μ-loop chunk₀ q₀ nums₀ out₀ at₀ left₀ to₀ turns₀ chunk q nums out at left to turns = turns
 
 loop-holds : tie.Need-loop-holds Inv-loop μ-loop
 loop-holds c = search needs

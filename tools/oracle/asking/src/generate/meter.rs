@@ -30,29 +30,50 @@ fn beat_near(r: &mut Rng, default: u32, pickup: Option<Beat>, meter: &[u32]) -> 
     }
 }
 
-/// How many words of output: exactly those that the entries take, one more or less, or any number.
+/// How many words of output: exactly those that the entries take, one more or less, one entry less, none, or any number.
 pub fn room(r: &mut Rng, entries: usize, each: usize) -> u32 {
     let full = entries * each;
-    (match r.below(8) {
-        0..=2 => full,
-        3 => full.saturating_sub(1),
-        4 => full + 1,
-        5 => full + each - 1,
-        6 => full.saturating_sub(r.below(full as u64 + 1) as usize),
+    (match r.below(12) {
+        0..=4 => full,
+        5 => full.saturating_sub(1),
+        6 => full.saturating_sub(each),
+        7 => 0,
+        8 => full + 1,
+        9 => full + each - 1,
+        10 => full.saturating_sub(r.below(full as u64 + 1) as usize),
         _ => full + r.below(20) as usize,
     })
     .min(65_540) as u32
 }
 
+/// Points of a bar each, one in so many of them with a problem.
+fn long_map(r: &mut Rng, count: u32, once: u64) -> Vec<u32> {
+    let mut words = Vec::new();
+    for bar in 0..count {
+        let point = match r.below(3 * once) {
+            0 => [bar, 0, 4],
+            1 => [bar, 4, r.pick(&[0, 3, 128])],
+            2 => [bar.saturating_sub(1), 4, 4],
+            _ => [bar, 4, r.pick(&[1, 4, 64])],
+        };
+        words.extend(point);
+    }
+    words
+}
+
 pub fn question(op: u32, r: &mut Rng, size: Size) -> Asked {
     let asked = Asked::default();
     if op == 0x14 {
-        let words = if size == Size::Small && r.once_in(20) {
-            // at the limit of 256 points and past it
-            let count = r.between(255, 258) as u32;
-            (0..count).flat_map(|bar| [bar, if r.once_in(30) { 0 } else { 4 }, 4]).collect()
-        } else {
-            maps::meter_points(r, size)
+        let words = match size {
+            // the longest map, with problems that there can be room for
+            Size::Huge(count, true) => long_map(r, count as u32, 5_000),
+            // at the limits of 256 points and of a tempo map's 1,024, and past them
+            Size::Small if r.once_in(20) => {
+                let limit = if r.once_in(8) { 1_024 } else { 256 };
+                let count = r.between(limit - 1, limit + 2) as u32;
+                long_map(r, count, 30)
+            }
+            _ => maps::meter_points(r, size),
         };
         let problems = meter_map_problems(&points(&words)).len();
         let asked = asked.u32(room(r, problems, 3)).u32(words.len() as u32 / 3);

@@ -1,4 +1,5 @@
 // The records of a tempo map.
+use crate::ProblemsAnswer;
 use crate::records;
 use beats::Beat;
 use beats::sums;
@@ -6,9 +7,11 @@ ghost use mathlib.Core.Path.{_≡_};
 ghost use Prim.Native.Nat.{_<_};
 ghost use lib.Ieee.{binary32, ofBits};
 ghost use lib.ListN.{length};
-ghost use Rattle.problems.specs.Problems.{soundTempo, tempoBits, listed, tempoProblems};
-ghost use Rattle.problems.specs.Answers.{allBeats};
-ghost use Rattle.problems.specs.Passes.{Ready, Passed, listedAt, beatAt, Even, tempoStart, tempoFirst, tempoLater, tempoAt};
+ghost use Rattle.tempo.proofs.Laws.{SoundMap};
+ghost use Rattle.problems.specs.Problems.{soundTempo, tempoBits, listed, tempoProblems, written};
+ghost use Rattle.problems.specs.Answers.{counted};
+ghost use Rattle.problems.specs.Readings.{readProblems};
+ghost use Rattle.problems.specs.Passes.{Ready, Passed, listedAt, beatAt, tempoStart, tempoFirst, tempoLater, tempoAt};
 
 // Whether the bits are those of a tempo that is finite and above 0.
 fn sound_tempo(bits: u32) -> bool
@@ -98,25 +101,9 @@ fn beat_at(nums: &[i64], dens: &[u32], i: usize) -> Beat
     }
 }
 
-// Whether each point is at a beat.
-pub fn all_beats(nums: &[i64], dens: &[u32]) -> bool
-    requires { ⌜ length (now dens) ≡ length (now nums) ⌝ }
-    ensures { λ r. ⌜ r ≡ allBeats (listed (now (nums .entry)) (now (dens .entry)) (now (dens .entry))) ⌝ }
-{
-    let mut i = 0;
-    while i < nums.len() {
-        let at = beat_at(nums, dens, i);
-        if !at.is_beat() {
-            return false;
-        }
-        i += 1;
-    }
-    true
-}
-
 // A pass over the points: it counts the records, or writes them too.
-pub fn pass(nums: &[i64], dens: &[u32], tempos: &[u32], out: &mut [u32], writing: bool) -> u32
-    requires { ⌜ Even (now nums) (now dens) (now tempos) × Ready writing (now out) 0 (tempoProblems (listed (now nums) (now dens) (now tempos))) ⌝ }
+fn pass(nums: &[i64], dens: &[u32], tempos: &[u32], out: &mut [u32], writing: bool) -> u32
+    requires { ⌜ SoundMap (now nums) (now dens) (now tempos) × Ready writing (now out) 0 (tempoProblems (listed (now nums) (now dens) (now tempos))) ⌝ }
     ensures { λ r. ⌜ Passed writing (now (out .entry)) 0 (tempoProblems (listed (now (nums .entry)) (now (dens .entry)) (now (tempos .entry)))) (now (out .exit)) r ⌝ }
 {
     let n = nums.len();
@@ -139,4 +126,17 @@ pub fn pass(nums: &[i64], dens: &[u32], tempos: &[u32], out: &mut [u32], writing
         i += 1;
     }
     count
+}
+
+// The problems of a map that can be walked: the records are counted, and written where there is
+// room for them.
+pub fn list(nums: &[i64], dens: &[u32], tempos: &[u32], out: &mut [u32]) -> ProblemsAnswer
+    requires { ⌜ SoundMap (now nums) (now dens) (now tempos) ⌝ }
+    ensures { λ r. ⌜ (readProblems r ≡ counted (tempoProblems (listed (now (nums .entry)) (now (dens .entry)) (now (tempos .entry)))) (now (out .entry))) × (now (out .exit) ≡ written (tempoProblems (listed (now (nums .entry)) (now (dens .entry)) (now (tempos .entry)))) (now (out .entry))) ⌝ }
+{
+    let count = pass(nums, dens, tempos, out, false);
+    if count as usize > out.len() / 3 {
+        return ProblemsAnswer::NoRoom;
+    }
+    ProblemsAnswer::Problems(pass(nums, dens, tempos, out, true))
 }

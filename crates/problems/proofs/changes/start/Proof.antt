@@ -9,8 +9,8 @@ use Rattle.beats.specs.Sums.{belowBeat}
 use Rattle.problems.specs.Problems.{Problem, when}
 use Rattle.problems.specs.Passes.{tempoStart}
 use Rattle.problems.proofs.Passing.{ready-first, ready-then, passed-then}
-use Rattle.problems.proofs.tempo.start.Statement.{statement}
-use Rattle.problems.proofs.tempo.start.Tie as tie
+use Rattle.problems.proofs.changes.start.Statement.{statement}
+use Rattle.problems.proofs.changes.start.Tie as tie
 
 -- a beat above 0, and one below it
 abbrev over : Beat → List Problem

@@ -3,16 +3,17 @@ use native.Mathlib.Omega.{arith}
 use mathlib.Core.Path.{_≡_, refl}
 use Prim.Native.Nat.{_+_, _≤_, _-_}
 use lib.ListN.{length, drop}
+use Rattle.tempo.proofs.Laws.{SoundMap}
 use Rattle.problems.specs.Problems.{listed, tempoProblems}
-use Rattle.problems.specs.Passes.{Even, Ready, beatAt, tempoAt, tempoFrom}
+use Rattle.problems.specs.Passes.{Ready, beatAt, tempoAt, tempoFrom}
 use Rattle.problems.proofs.Listing.{pointAt, tempo-all, tempo-next, tempo-end}
 use Rattle.problems.proofs.Passing.{Passing, begin, ready-next, on, done}
 use borrow.Author.Needs.{needs}
-use Rattle.problems.proofs.tempo.pass.Statement.{statement}
-use Rattle.problems.proofs.tempo.pass.Tie as tie
+use Rattle.problems.proofs.changes.pass.Statement.{statement}
+use Rattle.problems.proofs.changes.pass.Tie as tie
 
 abbrev Inv-loop : tie.InvT-loop
-Inv-loop nums dens tempos out₀ writing n before₀ count₀ i₀ out before count i = Even nums dens tempos × (n ≡ length nums) × (i ≤ n) × Ready writing out₀ 0 (tempoProblems (listed nums dens tempos)) × Passing writing out₀ out count (tempoFrom n i before (drop i (listed nums dens tempos))) (tempoProblems (listed nums dens tempos))
+Inv-loop nums dens tempos out₀ writing n before₀ count₀ i₀ out before count i = SoundMap nums dens tempos × (n ≡ length nums) × (i ≤ n) × Ready writing out₀ 0 (tempoProblems (listed nums dens tempos)) × Passing writing out₀ out count (tempoFrom n i before (drop i (listed nums dens tempos))) (tempoProblems (listed nums dens tempos))
 
 abbrev μ-loop : tie.MeasureT-loop
 μ-loop nums dens tempos out₀ writing n before₀ count₀ i₀ out before count i = n - i

@@ -2,8 +2,8 @@
 use borrow.Author.Needs.{needs}
 use Rattle.problems.specs.Passes.{listedAt}
 use Rattle.problems.proofs.Points.{tempo-first, tempo-later}
-use Rattle.problems.proofs.tempo.point.Statement.{statement}
-use Rattle.problems.proofs.tempo.point.Tie as tie
+use Rattle.problems.proofs.changes.point.Statement.{statement}
+use Rattle.problems.proofs.changes.point.Tie as tie
 
 first-requires : tie.Need-first-requires
 first-requires c κs = let a = c .before .before .before .args in rw (tempo-first (a .n) (a .index) (a .before) (listedAt (a .at) (a .bits)) (c .before .if1 .taken)) at (c .before .before .before .pre)

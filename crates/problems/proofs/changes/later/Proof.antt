@@ -5,8 +5,8 @@ use Rattle.beats.specs.Sums.{belowBeat}
 use Rattle.problems.specs.Problems.{when, tempoBits}
 use Rattle.problems.specs.Passes.{listedAt, tempoLater}
 use Rattle.problems.proofs.Passing.{ready-first, ready-then, passed-then}
-use Rattle.problems.proofs.tempo.later.Statement.{statement}
-use Rattle.problems.proofs.tempo.later.Tie as tie
+use Rattle.problems.proofs.changes.later.Statement.{statement}
+use Rattle.problems.proofs.changes.later.Tie as tie
 
 below-requires : tie.Need-below-requires
 below-requires c κs = search needs

@@ -1,8 +1,8 @@
 -- The record is found where the tempo is not sound.
 use borrow.Author.Needs.{needs}
 use Rattle.problems.specs.Problems.{tempoBits}
-use Rattle.problems.proofs.tempo.own.Statement.{statement}
-use Rattle.problems.proofs.tempo.own.Tie as tie
+use Rattle.problems.proofs.changes.own.Statement.{statement}
+use Rattle.problems.proofs.changes.own.Tie as tie
 
 sound-tempo-requires : tie.Need-sound-tempo-requires
 sound-tempo-requires c κs = search needs

@@ -3,8 +3,8 @@ use mathlib.Core.Path.{ap, _∙_}
 use Rattle.problems.specs.Problems.{soundTempo}
 use Rattle.problems.proofs.Tempos.{above-zero, not-above}
 use borrow.Author.Needs.{needs}
-use Rattle.problems.proofs.tempo.sound_tempo.Statement.{statement}
-use Rattle.problems.proofs.tempo.sound_tempo.Tie as tie
+use Rattle.problems.proofs.changes.sound_tempo.Statement.{statement}
+use Rattle.problems.proofs.changes.sound_tempo.Tie as tie
 
 f32-of-requires : tie.Need-f32-of-requires
 f32-of-requires c κs = search needs

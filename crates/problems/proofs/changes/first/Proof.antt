@@ -5,8 +5,8 @@ use lib.Dec.{ltb}
 use Rattle.problems.specs.Problems.{when, tempoBits}
 use Rattle.problems.specs.Passes.{listedAt, tempoStart, tempoFirst}
 use Rattle.problems.proofs.Passing.{ready-first, ready-then, passed-then}
-use Rattle.problems.proofs.tempo.first.Statement.{statement}
-use Rattle.problems.proofs.tempo.first.Tie as tie
+use Rattle.problems.proofs.changes.first.Statement.{statement}
+use Rattle.problems.proofs.changes.first.Tie as tie
 
 note-requires : tie.Need-note-requires
 unfolding tempoFirst

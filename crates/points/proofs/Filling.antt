@@ -1,0 +1,43 @@
+-- A loop that stores the points of flat words, one after another: those that are stored, and those that are left.
+use mathlib.Core.Path.{_≡_, refl, sym, ap, _∙_}
+use mathlib.Core.List.{List, [], _∷_, _++_, append-assoc, append-nil}
+use Prim.Native.Nat.{ℕ, suc, _+_, _*_, _<_, _≤_}
+use native.Mathlib.Omega.{arith}
+use lib.ListN.{length, set, take, drop, length-set}
+use lib.Seq.{take-suc-set}
+use Rattle.meter.specs.declared.MeterPoint.{MeterPoint}
+use Rattle.meter.specs.Meters.{pointsOf}
+use Rattle.meter.proofs.Laws.{pointAt, left, points-step, points-end}
+
+-- in an array of so many points, the first k are stored
+pub record Filled (most : ℕ) (words : List ℕ) (points : List MeterPoint) (k : ℕ) : Type 0 where
+  pub long : length points ≡ most
+  pub stored : take k points ++ left words (k * 3) ≡ pointsOf words
+
+module _ (most : ℕ) (words : List ℕ) (points : List MeterPoint) where
+  pub none : length points ≡ most → Filled most words points 0
+  none long = record { long = long; stored = refl }
+
+  pub one-more : (k : ℕ) (point : MeterPoint) → Filled most words points k → k < most → k * 3 + 2 < length words → point ≡ pointAt words (k * 3) → Filled most words (set points k point) (k + 1)
+  one-more k point F inside more e = record { long = length-set points k point ∙ F .long; stored = behind ∙ F .stored }
+    where
+      first : take (k + 1) (set points k point) ≡ take k points ++ (point ∷ [])
+      first = ap (λ (j : ℕ). take j (set points k point)) (next k) ∙ take-suc-set points k point (omega (arith, F .long, inside))
+        where
+          next : (j : ℕ) → j + 1 ≡ suc j
+          next j = omega arith
+
+      later : left words ((k + 1) * 3) ≡ pointsOf (drop (k * 3 + 3) words)
+      later = ap (λ (j : ℕ). pointsOf (drop j words)) (three k)
+        where
+          three : (j : ℕ) → (j + 1) * 3 ≡ j * 3 + 3
+          three j = omega arith
+
+      behind : take (k + 1) (set points k point) ++ left words ((k + 1) * 3) ≡ take k points ++ left words (k * 3)
+      behind =
+          rw (first, later, e)
+          (append-assoc (take k points) (pointAt words (k * 3) ∷ []) (pointsOf (drop (k * 3 + 3) words))
+          ∙ ap (λ (map : List MeterPoint). take k points ++ map) (sym (points-step words (k * 3) more)))
+
+  pub all : (k : ℕ) → Filled most words points k → length words ≤ k * 3 + 2 → take k points ≡ pointsOf words
+  all k F over = sym (append-nil (take k points)) ∙ ap (λ (map : List MeterPoint). take k points ++ map) (sym (points-end words (k * 3) over)) ∙ F .stored

@@ -1,0 +1,65 @@
+-- The first pass tells the count, and the second leaves the words.
+use mathlib.Core.Path.{ap, _∙_}
+use mathlib.Core.Bool.{true, false}
+use mathlib.Core.List.{List}
+use Prim.Native.Nat.{ℕ}
+use native.Mathlib.Nat.{zero-add}
+use native.Mathlib.Omega.{arith}
+use lib.ListN.{length}
+use borrow.Author.Needs.{needs}
+use Rattle.numbers.specs.Answers.{accepted}
+use Rattle.problems.specs.Problems.{listed, tempoProblems}
+use Rattle.problems.specs.Passes.{put}
+use Rattle.problems.proofs.Calls.{ready, never, too-many, enough, few}
+use Rattle.problems.proofs.Passing.{counts}
+use Rattle.problems.proofs.changes.list.Statement.{statement}
+use Rattle.problems.proofs.changes.list.Tie as tie
+
+pass-requires : tie.Need-pass-requires
+pass-requires c κs =
+    let a = c .before .before .before .before .args in
+    let nums = a .nums .now in
+    let dens = a .dens .now in
+    let tempos = a .tempos .now in
+    let h = c .before .before .before .before .pre in
+    (h, ready false (a .out .now) (tempoProblems (listed nums dens tempos)) (few nums dens tempos h) never)
+
+cast-if1 : tie.Need-cast-if1
+cast-if1 c = search needs
+
+same-length : tie.Need-same-length
+same-length c = search needs
+
+returns : tie.Need-returns
+returns c =
+    let a = c .before .before .before .before .before .before .before .before .args in
+    let nums = a .nums .now in
+    let dens = a .dens .now in
+    let tempos = a .tempos .now in
+    let out = a .out .now in
+    let problems = tempoProblems (listed nums dens tempos) in
+    let said = counts (c .before .before .before .pass .ensures) in
+    let many = too-many problems out (omega (arith, c .if1 .taken, said .0, ap length (said .1))) in
+    (many .0, said .1 ∙ many .1)
+
+pass-requires-2 : tie.Need-pass-requires-2
+pass-requires-2 c κs = search needs
+
+same-length-2 : tie.Need-same-length-2
+same-length-2 c = search needs
+
+returns-2 : tie.Need-returns-2
+returns-2 c =
+    let a = c .before .before .before .before .before .before .before .before .before .before .before .before .args in
+    let nums = a .nums .now in
+    let dens = a .dens .now in
+    let tempos = a .tempos .now in
+    let out = a .out .now in
+    let problems = tempoProblems (listed nums dens tempos) in
+    let said = counts (c .before .before .before .before .before .before .before .pass .ensures) in
+    let fit = enough problems out (omega (arith, c .before .before .before .before .if1 .left, said .0, ap length (said .1))) in
+    let wrote = c .before .before .pass2 .ensures in
+    (ap accepted (wrote .counted ∙ zero-add (length problems)) ∙ fit .0, wrote .words ∙ ap (λ (l : List ℕ). put true l 0 problems) (said .1) ∙ fit .1)
+
+pub list-spec : {M : Type 1} → statement M
+list-spec = tie.close (tie.spec pass-requires cast-if1 same-length returns pass-requires-2 same-length-2 returns-2)
