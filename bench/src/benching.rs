@@ -62,12 +62,12 @@ impl<'a> Asked<'a> {
     }
 
     /// Runs a row that is asked, and writes its line. `answer` makes the call of one turn, and answers it as a word.
-    pub fn row(&self, call: &str, size: &str, answer: impl Fn(usize, usize) -> u64) {
+    pub fn row(&self, call: &str, size: &str, answer: impl FnMut(usize, usize) -> u64) {
         self.row_or(FEW, call, size, answer);
     }
 
     /// The same for a row that makes `few` turns where it is not asked by name.
-    pub fn row_or(&self, few: u64, call: &str, size: &str, answer: impl Fn(usize, usize) -> u64) {
+    pub fn row_or(&self, few: u64, call: &str, size: &str, mut answer: impl FnMut(usize, usize) -> u64) {
         if self.row.is_some_and(|row| row != (call, size)) {
             return;
         }

@@ -4,6 +4,7 @@
 mod benching;
 mod meter;
 mod tempo;
+mod transport;
 mod units;
 
 use benching::Asked;
@@ -19,6 +20,7 @@ fn main() {
         "units" => units::rows(&asked),
         "meter" => meter::rows(&asked),
         "tempo" => tempo::rows(&asked),
+        "transport" => transport::rows(&asked),
         _ => {
             eprintln!("twin: no layer {layer}");
             std::process::exit(2);

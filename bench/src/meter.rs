@@ -10,7 +10,7 @@ const POINTS: usize = 4096;
 const DEFAULT: u32 = 4;
 
 /// Point k begins at bar 4 * k. A smaller map is the front of this one.
-fn map() -> Vec<MeterPoint> {
+pub fn map() -> Vec<MeterPoint> {
     inputs(|r, s| ((r % 8 + 1) as u32, [2, 4, 8, 16][(s % 4) as usize]))
         .into_iter()
         .take(POINTS)
@@ -20,7 +20,7 @@ fn map() -> Vec<MeterPoint> {
 }
 
 /// Numbers below `span`, spread over it.
-fn questions(span: usize) -> [u32; INPUTS] {
+pub fn questions(span: usize) -> [u32; INPUTS] {
     std::array::from_fn(|k| (place(k) * span / INPUTS) as u32)
 }
 

@@ -12,7 +12,7 @@ const POINTS: usize = 1024;
 const FEW: u64 = 5000;
 
 /// Point k begins at beat 4 * k. A smaller map is the front of this one.
-fn map() -> Vec<TempoPoint> {
+pub fn map() -> Vec<TempoPoint> {
     inputs(|r, _| f32::from_bits(0x4280_0000 + (r % 0x100_0000) as u32))
         .into_iter()
         .take(POINTS)

@@ -12,10 +12,6 @@ use meter::BarAnswer;
 use meter::CountAnswer;
 use meter::MeterAnswer;
 use meter::MeterPoint;
-use meter::Pickup;
-
-// The most flat words of a meter map: 65,537 points.
-const MAP: usize = 196_611;
 
 fn point_line(out: &mut [u8; HELD], to: &mut usize, point: MeterPoint) {
     let bar = point.bar;
@@ -66,28 +62,9 @@ fn count_answer(out: &mut [u8; HELD], to: &mut usize, answer: CountAnswer) {
     }
 }
 
-// Whether the meter map at an index ends the question.
-fn map_ends(q: &[u32], at: usize) -> bool {
-    asking::past_words(q, at, MAP) == q.len()
-}
-
-// Whether the word at an index is a flag.
-fn is_flag(q: &[u32], at: usize) -> bool {
-    asking::u32_at(q, at) <= 1
-}
-
-// The Pickup at an index: a flag, then a Beat.
-fn pickup_at(q: &[u32], at: usize) -> Pickup {
-    if asking::u32_at(q, at) == 0 {
-        Pickup::Absent
-    } else {
-        Pickup::Present(asking::beat_at(q, asking::past(q, at, 1)))
-    }
-}
-
 // 10: u32 default, u32 bar, meter.
 fn ask_meter_at(q: &[u32], out: &mut [u8; HELD], to: &mut usize) {
-    if !map_ends(q, 2) {
+    if !asking_clock::meter_ends(q, 2) {
         asking::unknown(out, to);
         return;
     }
@@ -99,12 +76,12 @@ fn ask_meter_at(q: &[u32], out: &mut [u8; HELD], to: &mut usize) {
 
 // 11, 12: u32 default, Pickup, u32 bar, meter.
 fn ask_bar(op: u32, q: &[u32], out: &mut [u8; HELD], to: &mut usize) {
-    if !map_ends(q, 6) || !is_flag(q, 1) {
+    if !asking_clock::meter_ends(q, 6) || !asking_clock::is_flag(q, 1) {
         asking::unknown(out, to);
         return;
     }
     let default = asking::u32_at(q, 0);
-    let pickup = pickup_at(q, 1);
+    let pickup = asking_clock::pickup_at(q, 1);
     let bar = asking::u32_at(q, 5);
     let words = asking::words(q, 6);
     match op {
@@ -115,12 +92,12 @@ fn ask_bar(op: u32, q: &[u32], out: &mut [u8; HELD], to: &mut usize) {
 
 // 13: u32 default, Pickup, Beat, meter.
 fn ask_count(q: &[u32], out: &mut [u8; HELD], to: &mut usize) {
-    if !map_ends(q, 8) || !is_flag(q, 1) {
+    if !asking_clock::meter_ends(q, 8) || !asking_clock::is_flag(q, 1) {
         asking::unknown(out, to);
         return;
     }
     let default = asking::u32_at(q, 0);
-    let pickup = pickup_at(q, 1);
+    let pickup = asking_clock::pickup_at(q, 1);
     let beat = asking::beat_at(q, 5);
     let words = asking::words(q, 8);
     count_answer(
@@ -138,6 +115,7 @@ fn answer(op: u32, q: &[u32], out: &mut [u8; HELD], to: &mut usize) {
         _ => asking::unknown(out, to),
     }
 }
+
 // Answers the next question; false where none can follow.
 fn turn(
     chunk: &mut [u8; CHUNK],

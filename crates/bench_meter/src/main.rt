@@ -16,10 +16,10 @@
 // Rows that nobody asked by name make fewer turns, the larger the map. No number of turns is a
 // multiple of 64: after 64 turns the checksum has turned round, and answers that are spread evenly
 // would cancel out.
-mod inputs;
 mod rows;
 
 use benching::INPUTS;
+use benching::maps;
 use rows::Row;
 ghost use mathlib.Core.Path.{_≡_};
 ghost use Prim.Native.Nat.{_*_, _≤_};
@@ -41,7 +41,7 @@ fn show(row: Row, call: &[u8], size: &[u8], map: &[u32], points: u32, few: u64)
     if benching::asked(call, size) {
         let turns = benching::turns_or(few);
         let mut questions = [0u32; INPUTS];
-        inputs::fill_questions(&mut questions, span(row, points));
+        maps::fill_spread(&mut questions, span(row, points));
         let words = 3 * points as usize;
         benching::line(
             call,
@@ -93,7 +93,7 @@ fn counts(map: &[u32])
 }
 
 fn main() {
-    let map = inputs::map();
+    let map = maps::meter_words();
     show(Row::Empty, b"empty", b"any", &map, 4096, 5000);
     starts(&map);
     counts(&map);

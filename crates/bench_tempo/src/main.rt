@@ -15,6 +15,7 @@ mod inputs;
 mod rows;
 
 use benching::INPUTS;
+use benching::maps;
 use rows::Row;
 ghost use mathlib.Core.Path.{_≡_};
 ghost use Prim.Native.Nat.{_<_, _≤_};
@@ -94,8 +95,8 @@ fn all(nums: &[i64], dens: &[u32], tempos: &[u32])
 }
 
 fn main() {
-    let nums = inputs::nums();
-    let dens = inputs::dens();
-    let tempos = inputs::tempos();
+    let nums = maps::tempo_nums();
+    let dens = maps::tempo_dens();
+    let tempos = maps::tempo_bits();
     all(&nums, &dens, &tempos);
 }

@@ -6,6 +6,8 @@
 ghost use Prim.Native.Nat.{_<_};
 use libc::STDOUT_FILENO;
 
+pub mod maps;
+
 // How many inputs a program makes before it starts. A processor learns the branches of 1,024 inputs
 // that come round by heart, and then a call costs half of what it does on inputs that are new to
 // it. These are too many for that, and few enough to stay in the cache.

@@ -2,6 +2,8 @@
 
 -- what is known of a map that the test finds sound
 pub use Rattle.tempo.proofs.Testing.{SoundMap, sound}
+-- the points: none without numerators, and one at a time
+pub use Rattle.tempo.proofs.Walking.{no-points, points-step}
 -- a walk over the points from index i on: how it begins, where it ends or stops, and how it goes on
 pub use Rattle.tempo.proofs.Walking.{pointsFrom, begins, ends, stops, goes}
 -- no two cases of an answer read alike

@@ -1,7 +1,7 @@
 -- The part of a map that a walk has left begins with the point that stands next, and so does the part that a test has left.
-use mathlib.Core.Path.{_≡_}
+use mathlib.Core.Path.{_≡_, refl}
 use mathlib.Core.Bool.{Bool, true, false, _&&_}
-use mathlib.Core.List.{List, _∷_}
+use mathlib.Core.List.{List, [], _∷_}
 use Prim.Native.Nat.{ℕ, _+_, _≤_, _<_}
 use native.Mathlib.Numerals.{add-one}
 use native.Mathlib.Omega.{arith}
@@ -42,8 +42,15 @@ module _ (nums : List ℤ) (dens : List ℕ) (even : length dens ≡ length nums
 abbrev pub pointsFrom : List ℤ → List ℕ → List ℕ → ℕ → List TempoPoint
 pointsFrom nums dens tempos i = tempoPoints (drop i nums) (drop i dens) (drop i tempos)
 
+-- without numerators there are no points
+pub no-points : (nums : List ℤ) (dens tempos : List ℕ) → length nums ≡ 0 → tempoPoints nums dens tempos ≡ []
+unfolding tempoPoints
+no-points [] dens tempos e = refl
+no-points (num ∷ nums) dens tempos e = absurd (omega arith)
+
 module _ (nums : List ℤ) (dens tempos : List ℕ) (evenDens : length dens ≡ length nums) (evenTempos : length tempos ≡ length nums) where
-  points-step : (i : ℕ) → i < length nums
+  -- with one at index i, its point stands there
+  pub points-step : (i : ℕ) → i < length nums
       → pointsFrom nums dens tempos i ≡ record { at = beatFloat (getD nums i (pos 0)) (getD dens i 0); tempo = tempoOf (getD tempos i 0) } ∷ pointsFrom nums dens tempos (i + 1)
   unfolding tempoPoints
   points-step i h =

@@ -2,12 +2,12 @@
 
 mod beats;
 pub(crate) mod cues;
-mod maps;
+pub(crate) mod maps;
 mod meter;
 mod pattern;
 mod problems;
 mod tempo;
-mod transport;
+pub(crate) mod transport;
 
 use crate::args::{Args, Transport};
 use crate::form::{self, MARK, Op};

@@ -22,13 +22,19 @@ use rng::Rng;
 /// one.
 const HUGE_EVERY: u64 = 4096;
 const HUGE_AT: u64 = 1000;
+/// More rarely for a transport, of which many ops have maps.
+const MAPS_EVERY: u64 = 16_384;
 /// Once in so many stands a list of as many notes as are taken, and one that is longer by one.
 const NOTES_EVERY: u64 = 512;
 const NOTES_AT: u64 = 300;
 
 /// The size of the lists at a place of an op's run.
 fn size(op: u32, place: u64) -> Size {
-    let (every, first, most) = if op >= 0x60 { (NOTES_EVERY, NOTES_AT, 4_096) } else { (HUGE_EVERY, HUGE_AT, 65_536) };
+    let (every, first, most) = match op {
+        0x30..=0x46 => (MAPS_EVERY, HUGE_AT, 65_536),
+        0x60.. => (NOTES_EVERY, NOTES_AT, 4_096),
+        _ => (HUGE_EVERY, HUGE_AT, 65_536),
+    };
     match (place % every).checked_sub(first) {
         Some(past @ 0..=5) => Size::Huge(most + past as usize % 2, past < 2),
         _ => Size::Small,

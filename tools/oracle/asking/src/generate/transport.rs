@@ -6,7 +6,10 @@ use super::maps::{self, Size};
 use super::rng::Rng;
 use super::tempo::beat_bits;
 use super::write::Asked;
+use crate::answer::maps::Asked as Maps;
+use crate::answer::transport::original;
 use crate::args::{Tempo, Transport};
+use crate::refusal;
 use tono_core::units::Beat;
 
 /// At a frame, or one beside it.
@@ -60,7 +63,7 @@ pub fn sound_transport(r: &mut Rng, length: u64) -> Transport {
         position: sound_position(r, length, looped),
         state: r.pick(&[1, 1, 1, 0, 2]),
         looped,
-        pickup: maps::pickup(r).filter(|beat| crate::refusal::is_beat(*beat)),
+        pickup: maps::pickup(r).filter(|beat| refusal::is_beat(*beat)),
     }
 }
 
@@ -150,20 +153,47 @@ fn on_grid(r: &mut Rng, t: &mut Transport) {
     }
 }
 
-/// The two maps; where one is huge the other is empty, so that the question keeps its size.
+/// The two maps. Beside a huge one the other is small, so that the question keeps its size, or empty where nothing else
+/// is to refuse it.
 fn both(r: &mut Rng, size: Size) -> (Vec<u32>, Tempo) {
     match size {
         Size::Small => {
             let tempo = if r.once_in(2) { Tempo::default() } else { maps::tempo(r, size) };
             (maps::meter(r, size), tempo)
         }
-        Size::Huge(..) if r.once_in(2) => (Vec::new(), maps::tempo(r, size)),
-        Size::Huge(..) => (maps::meter(r, size), Tempo::default()),
+        Size::Huge(_, whole) if r.once_in(2) => {
+            (if whole { Vec::new() } else { maps::meter(r, Size::Small) }, maps::tempo(r, size))
+        }
+        Size::Huge(_, whole) => {
+            (maps::meter(r, size), if whole { Tempo::default() } else { maps::tempo(r, Size::Small) })
+        }
     }
 }
 
 fn lone_tempo(r: &mut Rng, size: Size) -> Tempo {
     if size == Size::Small && r.once_in(2) { Tempo::default() } else { maps::tempo(r, size) }
+}
+
+/// The frame of a bar or of a beat through the maps, or one beside it; none where the transport or a map is refused.
+fn on_line(r: &mut Rng, t: &Transport, meter: &[u32], tempo: &Tempo) -> Option<u64> {
+    refusal::sound(t).ok()?;
+    Maps { meter: Some(meter), tempo: Some(tempo), ..Maps::default() }.test().ok()?;
+    let made = original(t, meter, tempo);
+    let frame = if r.once_in(2) {
+        made.frame_at_bar(maps::bar(r, meter))
+    } else {
+        made.frame_at_beat(f64::from_bits(beat_bits(r, tempo)))
+    };
+    Some(near(r, frame))
+}
+
+/// Once in a while the position goes to such a frame.
+fn to_line(r: &mut Rng, t: &mut Transport, meter: &[u32], tempo: &Tempo) {
+    if r.once_in(3)
+        && let Some(frame) = on_line(r, t, meter, tempo)
+    {
+        t.position = frame.min(t.length);
+    }
 }
 
 /// 30 and 31.
@@ -210,10 +240,22 @@ pub fn question(op: u32, r: &mut Rng, size: Size) -> Asked {
             let tempo = lone_tempo(r, size);
             asked.u64(beat_bits(r, &tempo)).tempo(&tempo)
         }
-        0x41 => asked.u64(r.u64()).tempo(&lone_tempo(r, size)),
-        0x43 | 0x45 => asked.tempo(&lone_tempo(r, size)),
+        0x41 => {
+            let tempo = lone_tempo(r, size);
+            let line = if r.once_in(2) { on_line(r, &t, &[], &tempo) } else { None };
+            asked.u64(line.unwrap_or_else(|| r.u64())).tempo(&tempo)
+        }
+        0x43 | 0x45 => {
+            let tempo = lone_tempo(r, size);
+            to_line(r, &mut t, &[], &tempo);
+            Asked::default().transport(&t).tempo(&tempo)
+        }
         _ => {
             let (meter, tempo) = both(r, size);
+            if op >= 0x43 {
+                to_line(r, &mut t, &meter, &tempo);
+            }
+            let asked = Asked::default().transport(&t);
             let asked = match op {
                 0x38 | 0x42 => asked.u32(maps::bar(r, &meter)),
                 0x3a => {

@@ -1,0 +1,13 @@
+-- The callee's equation.
+use borrow.Author.Needs.{needs}
+use Rattle.asking_clock.proofs.transports.is_flag.Statement.{statement}
+use Rattle.asking_clock.proofs.transports.is_flag.Tie as tie
+
+u32-at-requires : tie.Need-u32-at-requires
+u32-at-requires c κs = search needs
+
+returns : tie.Need-returns
+returns c = rw (c .u32-at .ensures)
+
+pub is-flag-spec : {M : Type 1} → statement M
+is-flag-spec = tie.close (tie.spec u32-at-requires returns)

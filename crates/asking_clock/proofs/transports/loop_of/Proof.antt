@@ -1,0 +1,27 @@
+-- By the flag.
+use mathlib.Core.Path.{_≡_, sym, _∙_}
+use borrow.Author.Needs.{needs}
+use borrow.Author.Tests.{eq-eqb, ne-eqb}
+use Rattle.asking_clock.proofs.transports.loop_of.Statement.{statement}
+use Rattle.asking_clock.proofs.transports.loop_of.Tie as tie
+
+u32-at-requires : tie.Need-u32-at-requires
+u32-at-requires c κs = search needs
+
+u64-at-requires : tie.Need-u64-at-requires
+u64-at-requires c κs = search needs
+
+u64-at-requires-2 : tie.Need-u64-at-requires-2
+u64-at-requires-2 c κs = search needs
+
+returns : tie.Need-returns
+returns c = rw (sym (c .before .u32-at .ensures), eq-eqb _ _ (c .if1 .taken))
+
+returns-2 : tie.Need-returns-2
+returns-2 c =
+    let test = c .before .before in
+    rw (c .u64-at2 .ensures, c .before .u64-at .ensures, sym (test .before .u32-at .ensures), ne-eqb _ _ (test .if1 .left))
+
+pub loop-of-spec : {M : Type 1} → statement M
+loop-of-spec =
+    tie.close (tie.spec u32-at-requires u64-at-requires u64-at-requires-2 returns returns-2)

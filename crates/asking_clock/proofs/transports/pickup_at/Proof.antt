@@ -1,0 +1,27 @@
+-- By the flag.
+use mathlib.Core.Path.{_≡_, sym, _∙_}
+use borrow.Author.Needs.{needs}
+use borrow.Author.Tests.{eq-eqb, ne-eqb}
+use Rattle.asking_clock.proofs.transports.pickup_at.Statement.{statement}
+use Rattle.asking_clock.proofs.transports.pickup_at.Tie as tie
+
+u32-at-requires : tie.Need-u32-at-requires
+u32-at-requires c κs = search needs
+
+past-requires : tie.Need-past-requires
+past-requires c κs = search needs
+
+beat-at-requires : tie.Need-beat-at-requires
+beat-at-requires c κs = search needs
+
+returns : tie.Need-returns
+returns c = rw (sym (c .before .u32-at .ensures), eq-eqb _ _ (c .if1 .taken))
+
+returns-2 : tie.Need-returns-2
+returns-2 c =
+    let test = c .before .before in
+    rw (c .beat-at .ensures, c .before .past .ensures, sym (test .before .u32-at .ensures), ne-eqb _ _ (test .if1 .left))
+
+pub pickup-at-spec : {M : Type 1} → statement M
+pickup-at-spec =
+    tie.close (tie.spec u32-at-requires past-requires beat-at-requires returns returns-2)

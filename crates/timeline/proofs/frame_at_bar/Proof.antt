@@ -1,0 +1,31 @@
+-- The test's refusals, each by its number; else the answer is that of the walk, whose lists the test found parallel.
+use mathlib.Core.Path.{sym, ap, _∙_}
+use borrow.Author.Needs.{needs}
+use Rattle.numbers.specs.Answers.{accepted}
+use Rattle.timeline.proofs.Testing.{by-test, maps-parallel}
+use Rattle.timeline.specs.declared.tests.Test.the-variants.{Sound as Passed, Refused}
+use Rattle.timeline.proofs.frame_at_bar.Statement.{statement}
+use Rattle.timeline.proofs.frame_at_bar.Tie as tie
+
+maps-test-requires : tie.Need-maps-test-requires
+maps-test-requires c κs = search needs
+
+enum-known-why : tie.Need-enum-known-why
+enum-known-why c = search needs
+
+enum-told : tie.Need-enum-told
+enum-told c = search needs
+
+frame-at-bar-requires : tie.Need-frame-at-bar-requires
+frame-at-bar-requires c κs = maps-parallel _ _ _ _ _ _ (c .before .before .maps-test .ensures) (c .enum-told .given .1)
+
+returns : tie.Need-returns
+returns c = by-test _ _ _ (Refused _) (sym (c .before .why .given .1) ∙ c .before .before .before .maps-test .ensures)
+
+returns-2 : tie.Need-returns-2
+returns-2 c = ap accepted (c .frame-at-bar .ensures) ∙ by-test _ _ _ Passed (sym (c .before .enum-told .given .1) ∙ c .before .before .before .maps-test .ensures)
+
+pub frame-at-bar-spec : {M : Type 1} → statement M
+frame-at-bar-spec =
+    tie.close
+    (tie.spec maps-test-requires enum-known-why enum-told frame-at-bar-requires returns returns-2)

@@ -1,0 +1,31 @@
+-- The test's refusals, each by its number; else the answer is that of the walk, whose lists the test found parallel.
+use mathlib.Core.Path.{sym, ap, _∙_}
+use borrow.Author.Needs.{needs}
+use Rattle.numbers.specs.Answers.{accepted}
+use Rattle.timeline.proofs.Testing.{by-test, tempo-parallel}
+use Rattle.timeline.specs.declared.tests.Test.the-variants.{Sound as Passed, Refused}
+use Rattle.timeline.proofs.next_beat.Statement.{statement}
+use Rattle.timeline.proofs.next_beat.Tie as tie
+
+tempo-test-requires : tie.Need-tempo-test-requires
+tempo-test-requires c κs = search needs
+
+enum-known-why : tie.Need-enum-known-why
+enum-known-why c = search needs
+
+enum-told : tie.Need-enum-told
+enum-told c = search needs
+
+next-beat-requires : tie.Need-next-beat-requires
+next-beat-requires c κs = tempo-parallel _ _ _ _ _ (c .before .before .tempo-test .ensures) (c .enum-told .given .1)
+
+returns : tie.Need-returns
+returns c = by-test _ _ _ (Refused _) (sym (c .before .why .given .1) ∙ c .before .before .before .tempo-test .ensures)
+
+returns-2 : tie.Need-returns-2
+returns-2 c = ap accepted (c .next-beat .ensures) ∙ by-test _ _ _ Passed (sym (c .before .enum-told .given .1) ∙ c .before .before .before .tempo-test .ensures)
+
+pub next-beat-spec : {M : Type 1} → statement M
+next-beat-spec =
+    tie.close
+    (tie.spec tempo-test-requires enum-known-why enum-told next-beat-requires returns returns-2)

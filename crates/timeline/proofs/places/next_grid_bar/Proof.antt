@@ -1,0 +1,31 @@
+-- The composition of the steps.
+use mathlib.Core.Path.{ap, _∙_}
+use Prim.Native.Nat.{ℕ}
+use lib.Ieee.{Float, binary64, toUnsigned}
+use borrow.Author.Needs.{needs}
+use Rattle.rounding.specs.Floats.{floorOf}
+use Rattle.timeline.specs.Places.{gridBar}
+use Rattle.timeline.proofs.places.next_grid_bar.Statement.{statement}
+use Rattle.timeline.proofs.places.next_grid_bar.Tie as tie
+
+position-bars-requires : tie.Need-position-bars-requires
+position-bars-requires c κs = search needs
+
+floor-requires : tie.Need-floor-requires
+floor-requires c κs = search needs
+
+cut-to-u32-requires : tie.Need-cut-to-u32-requires
+cut-to-u32-requires c κs = search needs
+
+grid-bar-requires : tie.Need-grid-bar-requires
+grid-bar-requires c κs = search needs
+
+returns : tie.Need-returns
+returns c =
+    c .grid-bar .ensures
+    ∙ ap (λ (n : ℕ). gridBar n (c .before .before .before .before .before .before .before .args .every)) (c .before .cut-to-u32 .ensures ∙ ap (λ (x : Float). toUnsigned 32 x) (c .before .before .floor .ensures ∙ ap (floorOf binary64) (c .before .before .before .position-bars .ensures)))
+
+pub next-grid-bar-spec : {M : Type 1} → statement M
+next-grid-bar-spec =
+    tie.close
+    (tie.spec position-bars-requires floor-requires cut-to-u32-requires grid-bar-requires returns)

@@ -1,0 +1,55 @@
+-- The composition of the steps; the literals 0.0 and 1.0 are the definition's `float0` and `float1`.
+use mathlib.Core.Path.{ap, _∙_}
+use lib.Ieee.{ofBits}
+use denote.Ref.{now}
+use borrow.Author.Needs.{needs}
+use Rattle.meter.specs.Meters.{pointsOf}
+use Rattle.timeline.specs.Places.{nearestBeat}
+use Rattle.timeline.proofs.Bars.{bars-are}
+use Rattle.timeline.proofs.places.position_bars.Statement.{statement}
+use Rattle.timeline.proofs.places.position_bars.Tie as tie
+
+position-beats-requires : tie.Need-position-beats-requires
+position-beats-requires c κs = search needs
+
+nearest-beat-requires : tie.Need-nearest-beat-requires
+nearest-beat-requires c κs = search needs
+
+current-bar-requires : tie.Need-current-bar-requires
+current-bar-requires c κs = search needs
+
+start-requires : tie.Need-start-requires
+start-requires c κs = search needs
+
+length-requires : tie.Need-length-requires
+length-requires c κs = search needs
+
+int-to-float-result : tie.Need-int-to-float-result
+int-to-float-result c = search needs
+
+part-of-requires : tie.Need-part-of-requires
+part-of-requires c κs = search needs
+
+clamp-f64-requires : tie.Need-clamp-f64-requires
+clamp-f64-requires c κs = search needs
+
+returns : tie.Need-returns
+unfolding ofBits
+returns c =
+    let s = c .before .before .before .before .before .before .before .before .before .before .before .args in
+    bars-are (s .t) (pointsOf (now (s .words))) _ _ (c .before .before .before .before .before .before .nearest-beat .ensures ∙ ap nearestBeat (c .before .before .before .before .before .before .before .position-beats .ensures)) _ _ _ _ _
+    (record { bar-is = c .before .before .before .before .before .current-bar .ensures; start-is = c .before .before .before .before .start .ensures; len-is = c .before .before .before .length .ensures; part-is = c .before .part-of .ensures; kept-is = c .clamp-f64 .ensures })
+
+pub position-bars-spec : {M : Type 1} → statement M
+position-bars-spec =
+    tie.close
+    (tie.spec
+    position-beats-requires
+    nearest-beat-requires
+    current-bar-requires
+    start-requires
+    length-requires
+    int-to-float-result
+    part-of-requires
+    clamp-f64-requires
+    returns)

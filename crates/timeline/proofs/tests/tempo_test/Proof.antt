@@ -1,0 +1,28 @@
+-- 12 first, then what the test of the map found.
+use mathlib.Core.Path.{sym, ap, _∙_}
+use borrow.Author.Tests.{not-true, not-false}
+use borrow.Author.Needs.{needs}
+use Rattle.timeline.specs.Tests.{tested, testOf}
+use Rattle.timeline.proofs.tests.tempo_test.Statement.{statement}
+use Rattle.timeline.proofs.tests.tempo_test.Tie as tie
+
+is-sound-requires : tie.Need-is-sound-requires
+is-sound-requires c κs = search needs
+
+returns : tie.Need-returns
+unfolding testOf
+returns c = rw (sym (c .before .is-sound .ensures) ∙ not-true _ (c .if1 .taken))
+
+test-requires : tie.Need-test-requires
+test-requires c κs = search needs
+
+found-requires : tie.Need-found-requires
+found-requires c κs = search needs
+
+returns-2 : tie.Need-returns-2
+unfolding testOf
+returns-2 c = rw (sym (c .before .before .before .is-sound .ensures) ∙ not-false _ (c .before .before .if1 .left)) (c .found .ensures ∙ ap tested (c .before .test .ensures))
+
+pub tempo-test-spec : {M : Type 1} → statement M
+tempo-test-spec =
+    tie.close (tie.spec is-sound-requires returns test-requires found-requires returns-2)

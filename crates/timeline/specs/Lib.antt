@@ -1,0 +1,5 @@
+pub mod Places
+pub mod Tests
+pub mod Answers
+pub mod Readings
+pub mod Promise
