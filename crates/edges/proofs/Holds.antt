@@ -8,8 +8,13 @@ use Rattle.meter.specs.Starts.{afterBars, segments, startOf}
 use Rattle.meter.specs.Counts.{doubling, halving, searched, reaches, countAt}
 use Rattle.transport.specs.Transports.{sound}
 use Rattle.transport.specs.Advances.{advanced}
+use Rattle.lines.specs.Lines.{ascendsFrom}
+use Rattle.notes.specs.Notes.{notesOf}
+use Rattle.notes.specs.Sorting.{insert, sortByStep}
+use Rattle.rhythm.specs.Values.{remainder}
+use Rattle.rhythm.specs.Makes.{hitsFrom, row}
 use Rattle.edges.specs.Edges.{table, answers, givens}
 
 pub holds : answers table ≡ givens table
-unfolding newBeat lowest gcdOf remainders fitted pointsOf later lastAt lenOf barLen nearer nextChange afterBars segments startOf doubling halving searched reaches countAt sound advanced
+unfolding newBeat lowest gcdOf remainders fitted pointsOf later lastAt lenOf barLen nearer nextChange afterBars segments startOf doubling halving searched reaches countAt sound advanced ascendsFrom notesOf insert sortByStep remainder hitsFrom row
 holds = refl

@@ -1,7 +1,7 @@
 -- Document 01's list "Both sides of each edge": the cases that it marks to be proved, as one table of questions and answers.
 -- proofs/Holds.antt has the one statement, that each question's definition gives the answer beside it.
 use mathlib.Core.Bool.{Bool, true, false}
-use mathlib.Core.List.{List, [], _∷_}
+use mathlib.Core.List.{List, [], _∷_, _++_, map}
 use Prim.Native.Nat.{ℕ}
 use lib.IntN.{ℤ, pos, negsuc, negℤ}
 use lib.Ieee.{fin}
@@ -20,6 +20,11 @@ use Rattle.transport.specs.declared.Transport.{Transport}
 use Rattle.transport.specs.Transports.{made, movedTo, loopingBy}
 use Rattle.transport.specs.Changes.{Handed}
 use Rattle.transport.specs.Advances.{Moves, advanceAnswer}
+use Rattle.cues.specs.CueCall.{Said, cueAnswer, cueAfter}
+use Rattle.notes.specs.declared.Note.{Note}
+use Rattle.pattern.specs.declared.Pattern.{Pattern}
+use Rattle.pattern.specs.Phrases.{Phrase}
+use Rattle.pattern.specs.Calls.{euclideanOf, tupletOf, rotateOf, reverseOf}
 
 -- ---- questions
 
@@ -29,6 +34,12 @@ pub data Question : Type 0 where
   order : Beat → Beat → Question
   count : List ℕ → ℕ → Pickup → Beat → Question
   advance : Transport → ℕ → Question
+  -- the transport, the lines, the frames and the output
+  cue : Transport → List ℕ → ℕ → List ℕ → Question
+  euclidean : ℕ → ℕ → Question
+  tuplet : ℕ → ℕ → Question
+  rotate : List ℕ → ℤ → Question
+  reverse : List ℕ → Question
 
 -- ---- answers: the values, as whole numbers
 
@@ -60,12 +71,32 @@ standsAt position wrapped finished = pos position ∷ ofBool wrapped ∷ ofBool 
 abbrev pub ofAdvance : Handed Moves → Answer (List ℤ)
 ofAdvance handed = read (λ moves. standsAt (handed .transport .position) (moves .0) (moves .1)) (handed .answer)
 
+-- the same, and the words of the output
+abbrev pub cued : ℕ → Bool → Bool → List ℕ → List ℤ
+cued position wrapped finished words = standsAt position wrapped finished ++ map pos words
+
+abbrev pub ofCues : Handed Said → List ℕ → Answer (List ℤ)
+ofCues handed words = read (λ said. cued (handed .transport .position) (said .wrapped) (said .finished) words) (handed .answer)
+
+-- the steps of the notes
+abbrev pub ofPhrase : Phrase → List ℤ
+ofPhrase made = map (λ (n : Note). pos (n .step)) (made .notes)
+
+-- a pattern of one bar, which the questions below take to be of 16 steps
+abbrev pub oneBar : Pattern
+oneBar = record { bars = 1 }
+
 abbrev pub answer : Question → Answer (List ℤ)
 answer (new num den) = accepted (ofBeat (newBeat num den))
 answer (add a b) = read ofBeat (addAnswer a b)
 answer (order a b) = read ofOrder (orderAnswer a b)
 answer (count words default pickup beat) = read ofNumber (countAnswer words default pickup beat)
 answer (advance t frames) = ofAdvance (advanceAnswer t frames)
+answer (cue t lines frames out) = ofCues (cueAnswer t lines frames out) (cueAfter t lines frames out)
+answer (euclidean pulses steps) = read ofPhrase (euclideanOf pulses steps 0 1 16)
+answer (tuplet notes steps) = read ofPhrase (tupletOf notes steps 0 1)
+answer (rotate words shift) = read ofPhrase (rotateOf oneBar words shift 16)
+answer (reverse words) = read ofPhrase (reverseOf oneBar words 16)
 
 -- ---- the table
 
@@ -92,6 +123,10 @@ fourFour = 0 ∷ 4 ∷ 4 ∷ []
 abbrev pub looped : ℕ → Transport
 looped position = movedTo (loopingBy (made 48000 (fin false 15 (pos 3)) 4 1000 Absent) (On 100 300)) position Playing
 
+-- one note, at a step and so long
+abbrev pub note : ℕ → ℕ → List ℕ
+note step len = step ∷ len ∷ 0 ∷ 0 ∷ []
+
 abbrev pub table : List Edge
 table =
     edge (new (pos 6) 8) (accepted (ofBeat (pos 3 // 4)))
@@ -108,6 +143,12 @@ table =
     ∷ edge (count fourFour 4 Absent (pos 8589934592 // 1)) (accepted (ofNumber 2147483648))
     ∷ edge (count fourFour 4 Absent (pos 8589934593 // 1)) (accepted (ofNumber 4294967295))
     ∷ edge (advance (looped 350) 0) (accepted (standsAt 150 true false))
+    ∷ edge (cue (looped 250) (0 ∷ 100 ∷ 200 ∷ 300 ∷ []) 300 (0 ∷ 0 ∷ 0 ∷ 0 ∷ 0 ∷ 0 ∷ [])) (accepted (cued 150 true false (50 ∷ 1 ∷ 150 ∷ 2 ∷ 250 ∷ 1 ∷ [])))
+    ∷ edge (euclidean 3 8) (accepted (pos 0 ∷ pos 3 ∷ pos 6 ∷ []))
+    ∷ edge (euclidean 0 8) (accepted [])
+    ∷ edge (tuplet 3 4) (accepted (pos 0 ∷ pos 1 ∷ pos 3 ∷ []))
+    ∷ edge (rotate (note 0 1) (minus 1)) (accepted (pos 15 ∷ []))
+    ∷ edge (reverse (note 14 4)) (accepted (pos 0 ∷ []))
     ∷ []
 
 -- ---- the statement

@@ -7,6 +7,8 @@ use meter::BarAnswer;
 use meter::CountAnswer;
 use meter::Pickup;
 use numbers::exact::Order;
+use pattern::Pattern;
+use pattern::PatternAnswer;
 use problems::ProblemsAnswer;
 
 fn text(s: &[u8]) {
@@ -161,9 +163,70 @@ fn denominator_edges() {
     denominator(0);
 }
 
+// The notes that were written, or the number of the refusal.
+fn print_written(a: PatternAnswer) {
+    match a {
+        PatternAnswer::Wrote { notes, pattern: _ } => io::print_decimal(1, notes as u64),
+        PatternAnswer::Uneven => text(b"refused 3"),
+        PatternAnswer::TooLong => text(b"refused 4"),
+        PatternAnswer::BadNumbers => text(b"refused 6"),
+        PatternAnswer::OffGrid {
+            what: _,
+            place: _,
+            value: _,
+        } => text(b"refused 7"),
+        PatternAnswer::NoRoom => text(b"refused 8"),
+    }
+}
+
+fn print_three(a: u32, b: u32, c: u32) {
+    io::print_decimal(1, a as u64);
+    text(b" ");
+    io::print_decimal(1, b as u64);
+    text(b" ");
+    print_number(c as u64);
+}
+
+fn made_edges() {
+    let mut out = [0u32; 12];
+    text(b"euclidean(3, 8), notes and steps: ");
+    print_written(pattern::euclidean(3, 8, 0, 1, 16, &mut out));
+    text(b", ");
+    print_three(out[0], out[4], out[8]);
+    text(b"euclidean(0, 8), notes: ");
+    print_written(pattern::euclidean(0, 8, 0, 1, 16, &mut out));
+    text(b"\ntuplet(3 in 4), notes and steps: ");
+    print_written(pattern::tuplet(3, 4, 0, 1, &mut out));
+    text(b", ");
+    print_three(out[0], out[4], out[8]);
+}
+
+// One bar of 16.
+fn turned_edges() {
+    let bar = Pattern { bars: 1 };
+    let mut out = [0u32; 4];
+    text(b"rotate -1, step 0: ");
+    pattern::rotate(bar, &[0u32, 1, 0, 0], -1, 16, &mut out);
+    print_number(out[0] as u64);
+    text(b"reverse, step 14 len 4: ");
+    pattern::reverse(bar, &[14u32, 4, 0, 0], 16, &mut out);
+    print_number(out[0] as u64);
+}
+
+fn gate_edge() {
+    let words = [0u32, 1, 0, 0, 4, 3, 0, 0, 8, 5, 0, 0];
+    let mut out = [0u32; 12];
+    text(b"gate 0.5, lens 1 3 5: ");
+    pattern::gate(Pattern { bars: 1 }, &words, 0.5, &mut out);
+    print_three(out[1], out[5], out[9]);
+}
+
 fn main() {
     beat_edges();
     count_edges();
     fine_pickup();
     denominator_edges();
+    made_edges();
+    turned_edges();
+    gate_edge();
 }

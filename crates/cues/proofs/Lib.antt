@@ -1,0 +1,12 @@
+pub mod Sounding
+pub mod Stretches
+pub mod Planning
+pub mod Parts
+pub mod Counting
+pub mod Writing
+pub mod Filling
+pub mod Answering
+pub mod Blocks
+pub mod Accepting
+pub mod Readings
+pub mod Laws

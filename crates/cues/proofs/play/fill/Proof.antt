@@ -1,0 +1,136 @@
+-- The searches give what `Found` says, and the count and the three writers follow from it.
+use mathlib.Core.Path.{sym, _∙_}
+use native.Mathlib.Omega.{arith}
+use borrow.Author.Needs.{needs}
+use Rattle.cues.proofs.Filling.{Found, ends-few, count-is, none-left, first-writes, laps-write, last-writes, all-written}
+use Rattle.cues.proofs.play.fill.Statement.{statement}
+use Rattle.cues.proofs.play.fill.Tie as tie
+use Rattle.cues.proofs.play.fill.Reads as reads
+use Rattle.cues.proofs.play.fill.Lts as lts
+use Rattle.cues.proofs.count.total.Reads as total-reads
+use Rattle.cues.proofs.write.laps.Reads as laps-reads
+use Rattle.cues.proofs.write.part.Reads as part-reads
+use Rattle.lines.proofs.range.part_from.Reads as part-from-reads
+use Rattle.lines.proofs.range.place_of.Reads as place-of-reads
+
+-- where the parts are found
+abbrev Searched : Type 0
+Searched =
+    lts.After-part-from3
+    (place-of-reads.Asked, place-of-reads.Learnt, part-from-reads.Asked, part-from-reads.Learnt, total-reads.Asked, total-reads.Learnt, part-reads.Asked, part-reads.Learnt, laps-reads.Asked, laps-reads.Learnt)
+    reads.Pre
+    reads.Post
+
+abbrev startOf : Searched → lts.Start (place-of-reads.Asked, place-of-reads.Learnt, part-from-reads.Asked, part-from-reads.Learnt, total-reads.Asked, total-reads.Learnt, part-reads.Asked, part-reads.Learnt, laps-reads.Asked, laps-reads.Learnt) reads.Pre reads.Post
+startOf c = c .before .before .before .before .before .before .before .before .before .before
+
+found : (c : Searched)
+    → Found (startOf c .args .lines .now) (startOf c .args .p) (c .before .before .before .before .before .before .before .place-of .result) (c .before .before .before .before .place-of2 .result) (c .before .before .before .before .before .part-from .result .now) (c .before .before .part-from2 .result .now) (c .part-from3 .result .now)
+found c = record {
+  up = startOf c .pre .0;
+  few = startOf c .pre .1;
+  fits = startOf c .pre .2;
+  place-at = c .before .before .before .before .before .before .before .place-of .ensures;
+  again-at = c .before .before .before .before .place-of2 .ensures;
+  first-is = c .before .before .before .before .before .part-from .ensures;
+  lap-is = c .before .before .part-from2 .ensures;
+  last-is = c .part-from3 .ensures;
+}
+
+place-of-requires : tie.Need-place-of-requires
+place-of-requires c κs = search needs
+
+add-part-from : tie.Need-add-part-from
+add-part-from c = search needs
+
+part-from-requires : tie.Need-part-from-requires
+part-from-requires c κs = search needs
+
+place-of-requires-2 : tie.Need-place-of-requires-2
+place-of-requires-2 c κs = search needs
+
+add-part-from-2 : tie.Need-add-part-from-2
+add-part-from-2 c = search needs
+
+part-from-requires-2 : tie.Need-part-from-requires-2
+part-from-requires-2 c κs = search needs
+
+add-part-from-3 : tie.Need-add-part-from-3
+add-part-from-3 c = search needs
+
+part-from-requires-3 : tie.Need-part-from-requires-3
+part-from-requires-3 c κs = search needs
+
+total-requires : tie.Need-total-requires
+total-requires c κs = ends-few (startOf c .args .lines .now) (startOf c .args .p) _ _ _ _ _ (found c)
+
+enum-told : tie.Need-enum-told
+enum-told c = search needs
+
+enum-known-n : tie.Need-enum-known-n
+enum-known-n c = search needs
+
+part-requires : tie.Need-part-requires
+part-requires c κs =
+    let f = c .before .before .before .before .before in
+    first-writes (startOf f .args .lines .now) (startOf f .args .p) _ _ _ _ _ (found f) (startOf f .args .out .now) _ _ (c .before .before .before .before .total .ensures) (c .before .before .n .given .1)
+
+laps-requires : tie.Need-laps-requires
+laps-requires c κs =
+    let f = c .before .before .before .before .before .before .before .before .before in
+    laps-write (startOf f .args .lines .now) (startOf f .args .p) _ _ _ _ _ (found f) (startOf f .args .out .now) _ _ (c .before .before .before .before .before .before .before .before .total .ensures) (c .before .before .before .before .before .before .n .given .1) _ _ (c .before .before .before .part .ensures)
+
+mul-part : tie.Need-mul-part
+mul-part c =
+    let f = c .before .before .before .before .before .before .before .before .before .before .before .before .before .before in
+    record { fits = omega (arith, startOf f .pre .2 .run-fits) }
+
+add-part : tie.Need-add-part
+add-part c =
+    let f = c .before .before .before .before .before .before .before .before .before .before .before .before .before .before .before in
+    record { fits = omega (arith, startOf f .pre .2 .run-fits) }
+
+part-requires-2 : tie.Need-part-requires-2
+part-requires-2 c κs =
+    let f = c .before .before .before .before .before .before .before .before .before .before .before .before .before .before .before in
+    last-writes (startOf f .args .lines .now) (startOf f .args .p) _ _ _ _ _ (found f) (startOf f .args .out .now) _ _ (c .before .before .before .before .before .before .before .before .before .before .before .before .before .before .total .ensures) (c .before .before .before .before .before .before .before .before .before .before .before .before .n .given .1) _ _ (c .before .before .before .before .before .before .before .before .before .part .ensures) _ _ (c .before .before .before .before .before .laps .ensures)
+
+returns : tie.Need-returns
+returns c =
+    let f = c .before .before .before in
+    let t = c .before .before .total .ensures in
+    (sym (c .enum-told .given .1) ∙ count-is (startOf f .args .lines .now) (startOf f .args .p) _ _ _ _ _ (found f) _ _ t, none-left (startOf f .args .lines .now) (startOf f .args .p) _ _ _ _ _ (found f) (startOf f .args .out .now) _ t (c .enum-told .given .1))
+
+same-length : tie.Need-same-length
+same-length c = search needs
+
+returns-2 : tie.Need-returns-2
+returns-2 c =
+    let f = c .before .before .before .before .before .before .before .before .before .before .before .before .before .before .before .before .before .before in
+    let t = c .before .before .before .before .before .before .before .before .before .before .before .before .before .before .before .before .before .total .ensures in
+    let n = c .before .before .before .before .before .before .before .before .before .before .before .before .before .before .before .n .given .1 in
+    (sym n ∙ count-is (startOf f .args .lines .now) (startOf f .args .p) _ _ _ _ _ (found f) _ _ t, all-written (startOf f .args .lines .now) (startOf f .args .p) _ _ _ _ _ (found f) (startOf f .args .out .now) _ _ t n _ _ (c .before .before .before .before .before .before .before .before .before .before .before .before .part .ensures) _ _ (c .before .before .before .before .before .before .before .before .laps .ensures) _ (c .before .before .part2 .ensures .1))
+
+pub fill-spec : {M : Type 1} → statement M
+fill-spec =
+    tie.close
+    (tie.spec
+    place-of-requires
+    add-part-from
+    part-from-requires
+    place-of-requires-2
+    add-part-from-2
+    part-from-requires-2
+    add-part-from-3
+    part-from-requires-3
+    total-requires
+    enum-told
+    enum-known-n
+    part-requires
+    laps-requires
+    mul-part
+    add-part
+    part-requires-2
+    returns
+    same-length
+    returns-2)

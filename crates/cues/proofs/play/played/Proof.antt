@@ -1,0 +1,75 @@
+-- Each way out is one of `Answering`'s.
+use native.Mathlib.Omega.{arith}
+use borrow.Author.Needs.{needs}
+use Rattle.lines.proofs.Laws.{fine-lines}
+use Rattle.cues.proofs.Answering.{out-of-reach, no-room, in-room}
+use Rattle.cues.proofs.play.played.Statement.{statement}
+use Rattle.cues.proofs.play.played.Tie as tie
+
+sub-if1 : tie.Need-sub-if1
+sub-if1 c = search needs
+
+refused-requires : tie.Need-refused-requires
+refused-requires c κs = search needs
+
+returns : tie.Need-returns
+returns c =
+    let s = c .before .before .before .before .before in
+    out-of-reach (s .args .t) (s .args .lines .now) (s .args .frames) (s .args .out .now) (s .pre .0) (s .pre .1) (s .pre .2) _ (omega (arith, c .before .if1 .taken)) (c .refused .ensures)
+
+make-requires : tie.Need-make-requires
+make-requires c κs = search needs
+
+fill-requires : tie.Need-fill-requires
+fill-requires c κs =
+    let s = c .before .before .before .before .before .before in
+    let fine = fine-lines (s .args .lines .now) (s .pre .1) in
+    (fine .1, fine .0, c .before .make .ensures .fits)
+
+enum-told : tie.Need-enum-told
+enum-told c = search needs
+
+refused-requires-2 : tie.Need-refused-requires-2
+refused-requires-2 c κs = search needs
+
+enum-known-n : tie.Need-enum-known-n
+enum-known-n c = search needs
+
+advanced-requires : tie.Need-advanced-requires
+advanced-requires c κs = search needs
+
+same-length : tie.Need-same-length
+same-length c = search needs
+
+returns-2 : tie.Need-returns-2
+returns-2 c =
+    let m = c .before .before .before .before .before .before in
+    let s = c .before .before .before .before .before .before .before .before .before .before .before .before in
+    no-room (s .args .t) (s .args .lines .now) (s .args .frames) (s .args .out .now) (s .pre .0) (s .pre .1) (s .pre .2) (make-requires (m .before .before) _ .reach) _ (m .before .make .ensures) _ _ (c .before .before .before .before .before .fill .ensures) (c .before .enum-told .given .1) _ (c .refused2 .ensures)
+
+same-length-2 : tie.Need-same-length-2
+same-length-2 c = search needs
+
+returns-3 : tie.Need-returns-3
+returns-3 c =
+    let m = c .before .before .before .before .before .before .before .before .before in
+    let s = c .before .before .before .before .before .before .before .before .before .before .before .before .before .before in
+    in-room (s .args .t) (s .args .lines .now) (s .args .frames) (s .args .out .now) (s .pre .0) (s .pre .1) (s .pre .2) (make-requires (m .before) _ .reach) _ (m .make .ensures) _ _ (c .before .before .before .before .before .before .before .fill .ensures) _ (c .before .before .before .n .given .1) _ (c .before .advanced .ensures)
+
+pub played-spec : {M : Type 1} → statement M
+played-spec =
+    tie.close
+    (tie.spec
+    sub-if1
+    refused-requires
+    returns
+    make-requires
+    fill-requires
+    enum-told
+    refused-requires-2
+    enum-known-n
+    advanced-requires
+    same-length
+    returns-2
+    same-length-2
+    returns-3)

@@ -1,0 +1,27 @@
+-- By whether the transport plays.
+use mathlib.Core.Path.{sym, _∙_}
+use borrow.Author.Needs.{needs}
+use Rattle.cues.proofs.Answering.{idle}
+use Rattle.cues.proofs.play.tested.Statement.{statement}
+use Rattle.cues.proofs.play.tested.Tie as tie
+
+is-playing-requires : tie.Need-is-playing-requires
+is-playing-requires c κs = search needs
+
+played-requires : tie.Need-played-requires
+played-requires c κs = search needs
+
+same-length : tie.Need-same-length
+same-length c = search needs
+
+returns : tie.Need-returns
+returns c = search needs
+
+returns-2 : tie.Need-returns-2
+returns-2 c =
+    let s = c .before .before .before .before in
+    idle (s .args .t) (s .args .lines .now) (s .args .frames) (s .args .out .now) (s .pre .0) (s .pre .1) (sym (c .before .is-playing .ensures) ∙ c .if1 .left)
+
+pub tested-spec : {M : Type 1} → statement M
+tested-spec =
+    tie.close (tie.spec is-playing-requires played-requires same-length returns returns-2)

@@ -1,0 +1,5 @@
+pub mod Sounding
+pub mod CueCall
+pub mod Readings
+pub mod Promise
+pub mod Plans

@@ -1,0 +1,10 @@
+-- What crates above may use of bar lines.
+
+-- ascending lines, one at a time
+pub use Rattle.lines.proofs.Order.{up-step}
+-- lines that the test passes
+pub use Rattle.lines.proofs.Ranges.{fine-lines}
+-- a range line by line; a place, without the first line; no line is in an empty range
+pub use Rattle.lines.proofs.Ranges.{line-in, line-before, line-past, tail-splits, tail-none, none-between}
+-- no two cases of the answer read alike
+pub use Rattle.lines.proofs.Readings.{lines-apart}

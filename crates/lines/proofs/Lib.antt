@@ -1,0 +1,4 @@
+pub mod Order
+pub mod Ranges
+pub mod Readings
+pub mod Laws

@@ -1,0 +1,52 @@
+-- The part between the two places.
+use mathlib.Core.Path.{sym}
+use native.Mathlib.Omega.{arith}
+use Rattle.lines.proofs.Ranges.{part-is, places-rise, none-between}
+use borrow.Author.Needs.{needs}
+use Rattle.lines.proofs.range.part_from.Statement.{statement}
+use Rattle.lines.proofs.range.part_from.Tie as tie
+
+slice-aggregate-result : tie.Need-slice-aggregate-result
+slice-aggregate-result c = search needs
+
+returns : tie.Need-returns
+returns c =
+    let s = c .before .before .before .args in
+    sym (none-between (s .start) (s .end) (c .before .if1 .taken) (s .lines .now))
+
+place-of-requires : tie.Need-place-of-requires
+place-of-requires c κs = search needs
+
+mul-result : tie.Need-mul-result
+mul-result c = search needs
+
+sub-result : tie.Need-sub-result
+sub-result c =
+    let s = c .before .before .before in
+    let i = c .before .if1 .left in
+    places-rise (s .args .start) (s .args .end) (omega arith) (s .args .lines .now) _ _ (s .pre .1) (c .place-of .ensures)
+
+part-result-start : tie.Need-part-result-start
+part-result-start c = sub-result c
+
+part-result-end : tie.Need-part-result-end
+part-result-end c = search needs
+
+returns-2 : tie.Need-returns-2
+returns-2 c =
+    let s = c .before .before .before .before in
+    let i = c .before .before .if1 .left in
+    sym (part-is (s .args .start) (s .args .end) (omega arith) (s .args .lines .now) _ _ (s .pre .1) (c .before .place-of .ensures))
+
+pub part-from-spec : {M : Type 1} → statement M
+part-from-spec =
+    tie.close
+    (tie.spec
+    slice-aggregate-result
+    returns
+    place-of-requires
+    mul-result
+    sub-result
+    part-result-start
+    part-result-end
+    returns-2)

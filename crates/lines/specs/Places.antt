@@ -1,0 +1,10 @@
+-- The place of a frame among ascending lines.
+use mathlib.Core.List.{List}
+use Prim.Native.Nat.{ℕ, _≤_, _<_}
+use lib.ListN.{length, getD}
+
+-- the lines before the place are below the frame, and the others are not
+pub record Splits (frame : ℕ) (lines : List ℕ) (place : ℕ) : Type 0 where
+  pub within : place ≤ length lines
+  pub below : (k : ℕ) → k < place → getD lines k 0 < frame
+  pub from : (k : ℕ) → place ≤ k → k < length lines → frame ≤ getD lines k 0

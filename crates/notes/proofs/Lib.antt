@@ -1,0 +1,10 @@
+pub mod FourWords
+pub mod Flat
+pub mod Writing
+pub mod Parts
+pub mod Sorted
+pub mod Stable
+pub mod Merging
+pub mod Halves
+pub mod Whole
+pub mod Laws

@@ -1,0 +1,3 @@
+pub mod Phrases
+pub mod Readings
+pub mod Calls

@@ -1,0 +1,45 @@
+// The calls that change each note in the same way and leave the bars.
+use crate::Pattern;
+use crate::PatternAnswer;
+use crate::answers;
+use rhythm::changing;
+use rhythm::changing::Change;
+ghost use mathlib.Core.Path.{_≡_};
+ghost use Rattle.rhythm.specs.Changes.{Ready};
+ghost use Rattle.pattern.specs.Phrases.{answered, written};
+ghost use Rattle.pattern.specs.Calls.{eachOf, eachSortedOf};
+ghost use Rattle.pattern.specs.Readings.{readPattern};
+
+// The call that changes each note and keeps their order.
+pub fn each(p: Pattern, words: &[u32], how: Change, out: &mut [u32]) -> PatternAnswer
+    requires { ⌜ Ready how ⌝ }
+    ensures { λ r. ⌜ (readPattern r ≡ answered (eachOf how p (now (words .entry))) (now (out .entry))) × (now (out .exit) ≡ written (eachOf how p (now (words .entry))) (now (out .entry))) ⌝ }
+{
+    let number = notes::one_number(words.len());
+    if number != 0 {
+        return answers::by_number(number);
+    }
+    if words.len() > out.len() {
+        return PatternAnswer::NoRoom;
+    }
+    changing::copy(words, how, out);
+    answers::wrote(words.len(), p.bars)
+}
+
+// The call that changes each note and sorts them by step.
+pub fn each_sorted(p: Pattern, words: &[u32], how: Change, out: &mut [u32]) -> PatternAnswer
+    requires { ⌜ Ready how ⌝ }
+    ensures { λ r. ⌜ (readPattern r ≡ answered (eachSortedOf how p (now (words .entry))) (now (out .entry))) × (now (out .exit) ≡ written (eachSortedOf how p (now (words .entry))) (now (out .entry))) ⌝ }
+{
+    let number = notes::one_number(words.len());
+    if number != 0 {
+        return answers::by_number(number);
+    }
+    let size = words.len();
+    if size > out.len() {
+        return PatternAnswer::NoRoom;
+    }
+    changing::copy(words, how, out);
+    notes::sorting::sort_by_step(&mut out[..size]);
+    answers::wrote(size, p.bars)
+}

@@ -1,0 +1,7 @@
+pub mod Sums
+pub mod Repeats
+pub mod Windows
+pub mod Gridding
+pub mod Even
+pub mod Remainders
+pub mod Laws

@@ -1,0 +1,30 @@
+-- By the cases of the spread.
+use mathlib.Core.Path.{sym, ap, _∙_}
+use borrow.Author.Needs.{needs}
+use Rattle.rhythm.specs.declared.making.Spread.{Spread}
+use Rattle.rhythm.specs.Makes.{placeOf}
+use Rattle.rhythm.proofs.making.place.Tie as tie
+use Rattle.rhythm.proofs.making.place.Statement.{statement}
+
+enum-known-how : tie.Need-enum-known-how
+enum-known-how c = search needs
+
+pulse-requires : tie.Need-pulse-requires
+pulse-requires c κs = rw (c .before .how .given .1) at (c .before .before .before .pre)
+
+enum-known-how-2 : tie.Need-enum-known-how-2
+enum-known-how-2 c = search needs
+
+nearest-requires : tie.Need-nearest-requires
+nearest-requires c κs = rw (c .before .how2 .given .1) at (c .before .before .before .pre)
+
+returns : tie.Need-returns
+returns c = let s = c .before .before .before .before .args in c .pulse .ensures ∙ sym (ap (λ (h : Spread). placeOf h (s .k)) (c .before .before .how .given .1))
+
+returns-2 : tie.Need-returns-2
+returns-2 c = let s = c .before .before .before .before .args in c .nearest .ensures ∙ sym (ap (λ (h : Spread). placeOf h (s .k)) (c .before .before .how2 .given .1))
+
+pub place-spec : {M : Type 1} → statement M
+place-spec =
+    tie.close
+    (tie.spec enum-known-how pulse-requires enum-known-how-2 nearest-requires returns returns-2)

@@ -1,0 +1,28 @@
+-- The rounded length, or 1.
+use mathlib.Core.Path.{_≡_, ap, _∙_}
+use Prim.Native.Nat.{ℕ, max}
+use lib.Ieee.{binary32, mul, ofInt, toUnsigned}
+use lib.IntN.{pos}
+use borrow.Author.Needs.{needs}
+use Rattle.rounding.specs.Floats.{roundAway}
+use Rattle.rhythm.proofs.steps.gated.Tie as tie
+use Rattle.rhythm.proofs.steps.gated.Statement.{statement}
+
+nearest-u32-to-f32-requires : tie.Need-nearest-u32-to-f32-requires
+nearest-u32-to-f32-requires c κs = search needs
+
+round-to-u32-requires : tie.Need-round-to-u32-requires
+round-to-u32-requires c κs = search needs
+
+larger-requires : tie.Need-larger-requires
+larger-requires c κs = search needs
+
+returns : tie.Need-returns
+returns c =
+    let a = c .before .before .before .args in
+    let e : c .before .round-to-u32 .result ≡ toUnsigned 32 (roundAway (mul binary32 (ofInt binary32 (pos (a .len))) (a .factor))) = cc in
+    c .larger .ensures ∙ ap (λ (k : ℕ). max k 1) e
+
+pub gated-spec : {M : Type 1} → statement M
+gated-spec =
+    tie.close (tie.spec nearest-u32-to-f32-requires round-to-u32-requires larger-requires returns)

@@ -1,0 +1,5 @@
+pub mod Values
+pub mod Joins
+pub mod Cuts
+pub mod Changes
+pub mod Makes
