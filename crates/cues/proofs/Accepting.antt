@@ -13,9 +13,8 @@ use Rattle.transport.specs.declared.Transport.{Transport}
 use Rattle.transport.specs.Transports.{sound, playing}
 use Rattle.transport.specs.Advances.{advanced}
 use Rattle.lines.specs.Lines.{linesAnswer}
-use Rattle.cues.specs.Sounding.{cues}
+use Rattle.cues.specs.Sounding.{cues, later}
 use Rattle.cues.specs.CueCall.{cueTest, movedBy, handedBy}
-use Rattle.cues.specs.Plans.{later}
 use Rattle.cues.specs.Promise.{Block, isAccepted, answerTo, next, allAccepted, framesIn, allRoom, Accepting}
 use Rattle.cues.proofs.Sounding.{cues-on, length-later}
 use Rattle.cues.proofs.Answering.{past-lines}
@@ -24,7 +23,8 @@ use Rattle.cues.proofs.Blocks.{Says, says, rest-sound, rest-reach}
 module _ (lines : List ℕ) (fine : linesAnswer lines ≡ accepted tt) where
   one-accepted : (t : Transport) (block : Block) → sound t ≡ true → t .position + block .frames ≤ 2 ^ 64 - 1 → length (cues lines t (block .frames)) ≤ length (block .out) / 2
       → isAccepted (answerTo lines t block .answer) ≡ true
-  one-accepted t block is h room = ap (λ (a : Answer Unit). isAccepted (handedBy t a (movedBy (advanced t (block .frames)) (length (cues lines t (block .frames)))) .answer)) (by-state (playing (t .state)) refl)
+  one-accepted t block is h room =
+      ap (λ (a : Answer Unit). isAccepted (handedBy t a (movedBy (advanced t (block .frames)) (length (cues lines t (block .frames)))) .answer)) (by-state (playing (t .state)) refl)
     where
       by-state : (q : Bool) → playing (t .state) ≡ q → cueTest t lines (block .frames) (block .out) ≡ accepted tt
       by-state true p =

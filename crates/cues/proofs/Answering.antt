@@ -108,7 +108,8 @@ module _ (t : Transport) (lines : List ℕ) (frames : ℕ) (out : List ℕ) wher
                 left = e .1 ∙ ap (λ (b : Bool). cond b (over (flat (planCues lines plan)) out) out) (lt-leb (length (planCues lines plan)) (length out / 2) over-room)
 
             pub in-room : (n : ℕ) → counted ≡ Fits n → (r : Run) → r ≡ run → Answers (record { transport = r .transport; report = Cued (r .wrapped) (r .finished) n }) words
-            in-room n fits r is = accepts (record { transport = r .transport; report = Cued (r .wrapped) (r .finished) n }) words (in-reach ∙ ap (λ (b : Bool). cond b (accepted tt) (refused 8 [])) room)
+            in-room n fits r is = accepts (record { transport = r .transport; report = Cued (r .wrapped) (r .finished) n }) words
+                (in-reach ∙ ap (λ (b : Bool). cond b (accepted tt) (refused 8 [])) room)
                 (ap (λ (q : Run). movedBy q n) is ∙ ap (movedBy run) (count .0 ∙ ap length (sym same)))
                 (e .1 ∙ ap (λ (b : Bool). cond b (over (flat (planCues lines plan)) out) out) enough ∙ ap (λ (c : List Cue). over (flat c) out) (sym same))
               where

@@ -14,10 +14,10 @@ use Rattle.transport.specs.Changes.{Handed}
 use Rattle.transport.specs.Advances.{advanced}
 use Rattle.transport.specs.Promise.{Composes}
 use Rattle.transport.proofs.Laws.{advanced-sound, advanced-low, composes}
-use Rattle.cues.specs.Sounding.{Cue, cues}
+use Rattle.cues.specs.Sounding.{Cue, cues, later}
 use Rattle.cues.specs.CueCall.{cueTest, Said, movedBy, handedBy, cueAnswer, flat, over, wordsBy, cueAfter}
-use Rattle.cues.specs.Plans.{later}
-use Rattle.cues.specs.Promise.{Block, isAccepted, said, pairsOf, answerTo, saidTo, next, cuesIn, allAccepted, joinedCues, lastTransport, someWraps, someFinishes, SameAsBlocks, framesIn, ByBlocks}
+use Rattle.cues.specs.Promise.{Block, isAccepted, said, pairsOf, answerTo, saidTo, next, cuesIn}
+use Rattle.cues.specs.Promise.{allAccepted, joinedCues, lastTransport, someWraps, someFinishes, framesIn, ByBlocks}
 use Rattle.cues.proofs.Sounding.{cues-on}
 
 -- what is written is read back

@@ -80,7 +80,10 @@ module _ (lines : List ℕ) (p : Plan) (place again : ℕ) (first lap last : Lis
   -- ---- no room: nothing is written
   pub none-left : (out : List ℕ) (counted : Counted) → counted ≡ countedTo (length out / 2) total → counted ≡ TooMany → out ≡ written (planCues lines p) out
   none-left out counted e g =
-      sym (ap (λ (b : Bool). cond b (over (flat (planCues lines p)) out) out) (lt-leb (length (planCues lines p)) (length out / 2) (counted-many (length out / 2) (length (planCues lines p)) (sym (count-is (length out / 2) counted e) ∙ g))))
+      sym (ap (λ (b : Bool). cond b (over (flat (planCues lines p)) out) out) (lt-leb (length (planCues lines p)) (length out / 2) many))
+    where
+      many : length out / 2 < length (planCues lines p)
+      many = counted-many (length out / 2) (length (planCues lines p)) (sym (count-is (length out / 2) counted e) ∙ g)
 
   -- ---- room: the three stretches are written
   module _ (before : List ℕ) (counted : Counted) (n : ℕ) (e : counted ≡ countedTo (length before / 2) total) (g : counted ≡ Fits n) where
@@ -128,6 +131,8 @@ module _ (lines : List ℕ) (p : Plan) (place again : ℕ) (first lap last : Lis
         -- what the three calls leave
         pub all-written : (out″ : List ℕ) → out″ ≡ sets out′ next lastWords → out″ ≡ written (planCues lines p) before
         all-written out″ three =
-            three ∙ rw (two .1, two .0, one .1, one .0) (sym (sets-append (sets before 0 firstWords) (0 + length firstWords) lapsWords lastWords)) ∙ sym (sets-append before 0 firstWords (lapsWords ++ lastWords)) ∙ sym (ap (sets before 0) whole)
+            three
+            ∙ rw (two .1, two .0, one .1, one .0) (sym (sets-append (sets before 0 firstWords) (0 + length firstWords) lapsWords lastWords))
+            ∙ sym (sets-append before 0 firstWords (lapsWords ++ lastWords)) ∙ sym (ap (sets before 0) whole)
             ∙ sets-eq (flat (planCues lines p)) before 0 (omega (arith, room)) ∙ ap (λ (m : ℕ). flat (planCues lines p) ++ drop m before) (zero-add (length (flat (planCues lines p))))
             ∙ sym (ap (λ (b : Bool). cond b (over (flat (planCues lines p)) before) before) (le-leb (length (planCues lines p)) (length before / 2) enough))

@@ -11,9 +11,9 @@ use Rattle.lines.specs.Lines.{ascendsFrom, ascends, between}
 use Rattle.lines.specs.Places.{Splits}
 use Rattle.lines.proofs.Laws.{up-step, line-in, line-before, line-past, tail-splits, tail-none}
 use Rattle.cues.specs.declared.plan.Plan.{Plan}
-use Rattle.cues.specs.Sounding.{Cue}
+use Rattle.cues.specs.Sounding.{Cue, later}
 use Rattle.cues.specs.CueCall.{flat}
-use Rattle.cues.specs.Plans.{stretch, later, lapCues, planCues, partWords, lapWords, Within}
+use Rattle.cues.specs.Plans.{stretch, lapCues, planCues, partWords, lapWords, Within}
 use Rattle.cues.proofs.Sounding.{later-append, later-zero, length-later}
 use Rattle.cues.proofs.Stretches.{stretch-below, stretch-past, stretch-in}
 
@@ -54,7 +54,13 @@ length-laps : (start lap last : ℕ) (lines : List ℕ) (laps : ℕ)
 length-laps start lap last lines zero = length-stretch start last 0 lines ∙ omega (arith, zero-mul (length (between start (start + lap) lines)))
 length-laps start lap last lines (suc laps) =
     length-append (stretch start lap 0 lines) (map (later lap) (lapCues start lap last lines laps))
-    ∙ omega (arith, length-stretch start lap 0 lines, length-later lap (lapCues start lap last lines laps), length-laps start lap last lines laps, suc-mul laps (length (between start (start + lap) lines)))
+    ∙ omega (
+      arith,
+      length-stretch start lap 0 lines,
+      length-later lap (lapCues start lap last lines laps),
+      length-laps start lap last lines laps,
+      suc-mul laps (length (between start (start + lap) lines)),
+    )
 
 pub length-plan : (lines : List ℕ) (p : Plan) → length (planCues lines p)
     ≡ length (between (p .from) (p .from + p .first) lines) + (p .laps * length (between (p .start) (p .start + p .lap) lines) + length (between (p .start) (p .start + p .last) lines))

@@ -18,8 +18,8 @@ use Rattle.transport.specs.Advances.{fold, standing, came, advanced}
 use Rattle.transport.proofs.Laws.{on-sound, fold-lt, sound-loop, moved-sound, plays-on}
 use Rattle.lines.specs.Lines.{ascends}
 use Rattle.cues.specs.declared.plan.Plan.{Plan}
-use Rattle.cues.specs.Sounding.{Cue, cues}
-use Rattle.cues.specs.Plans.{stretch, later, lapCues, planCues, straightPlan, lapPlan, loopPlan, Fitting, Plays, Planned}
+use Rattle.cues.specs.Sounding.{Cue, cues, later}
+use Rattle.cues.specs.Plans.{stretch, lapCues, planCues, straightPlan, lapPlan, loopPlan, Fitting, Plays, Planned}
 use Rattle.cues.proofs.Sounding.{later-zero, cues-on}
 use Rattle.cues.proofs.Stretches.{no-frames, straight-off, straight-on, wraps-on, ends-off}
 
@@ -47,7 +47,8 @@ module _ (lines : List ℕ) (up : ascends lines ≡ true) (t : Transport) (is : 
       none = ap (λ (n : ℕ). n + last) (zero-mul (end - start)) ∙ zero-add last
   laps-are last k (suc laps) h =
       ap (cues lines (movedTo t start Playing)) more
-      ∙ wraps-on lines (movedTo t start Playing) up (here start (omega (arith, good .0))) refl start end (end - start) (laps * (end - start) + last) on (good .1) (omega (arith, good .0)) (omega (arith, more))
+      ∙ wraps-on lines (movedTo t start Playing) up (here start (omega (arith, good .0))) refl start end (end - start) (laps * (end - start) + last) on (good .1)
+      (omega (arith, good .0)) (omega (arith, more))
       ∙ ap (λ (c : List Cue). stretch start (end - start) 0 lines ++ map (later (end - start)) c) (laps-are last k laps (omega (arith, more)))
     where
       more : suc laps * (end - start) + last ≡ (end - start) + (laps * (end - start) + last)
@@ -61,7 +62,8 @@ module _ (lines : List ℕ) (up : ascends lines ≡ true) (t : Transport) (is : 
       ∙ wraps-on lines (movedTo t from Playing) up (here from (omega arith)) refl start end (end - from) (whole * (end - start) + part) on (good .1) (omega arith) (omega (arith, cut k))
       ∙ ap (λ (c : List Cue). stretch from (end - from) 0 lines ++ map (later (end - from)) c)
       (laps-are part (le-of-lt (mod-lt (frames - (end - from)) (omega (arith, good .0)))) whole (omega (arith, cut k, good .0)))))
-      (λ k. simp (le-leb frames (end - from) k) (straight-on lines (movedTo t from Playing) up (here from (omega arith)) refl start end frames on (good .1) (omega arith) h ∙ straight-plan from frames lines))
+      (λ k. simp (le-leb frames (end - from) k) (
+      straight-on lines (movedTo t from Playing) up (here from (omega arith)) refl start end frames on (good .1) (omega arith) h ∙ straight-plan from frames lines))
     where
       whole : ℕ
       whole = (frames - (end - from)) / (end - start)

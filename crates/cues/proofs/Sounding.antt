@@ -14,8 +14,7 @@ use Rattle.transport.specs.Transports.{sound, playing}
 use Rattle.transport.specs.Advances.{advanced}
 use Rattle.transport.specs.Promise.{Composes}
 use Rattle.transport.proofs.Laws.{stays-put, advanced-plays, composes}
-use Rattle.cues.specs.Sounding.{Cue, when, standsAt, soundedAt, linesEqual, cuesAt, cues}
-use Rattle.cues.specs.Plans.{later}
+use Rattle.cues.specs.Sounding.{Cue, when, standsAt, soundedAt, linesEqual, cuesAt, cues, later}
 
 -- ---- the frame sounded
 

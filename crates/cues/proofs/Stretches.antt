@@ -20,8 +20,8 @@ use Rattle.transport.specs.Advances.{standing, came, advanced}
 use Rattle.transport.proofs.Laws.{plays-on}
 use Rattle.lines.specs.Lines.{ascendsFrom, ascends}
 use Rattle.lines.proofs.Laws.{up-step}
-use Rattle.cues.specs.Sounding.{Cue, when, standsAt, soundedAt, linesEqual, cuesAt, cues}
-use Rattle.cues.specs.Plans.{stretch, later}
+use Rattle.cues.specs.Sounding.{Cue, when, standsAt, soundedAt, linesEqual, cuesAt, cues, later}
+use Rattle.cues.specs.Plans.{stretch}
 use Rattle.cues.proofs.Sounding.{sounds-playing, silent, cues-on}
 
 -- ---- one line of a stretch, or not
@@ -95,7 +95,8 @@ no-frames from place (line ∷ rest) = by-order line from
 
 -- ---- where the frames sound one after the other, the cues are the stretch's
 
-run-is : (lines : List ℕ) (t : Transport) (from frames : ℕ) → ascends lines ≡ true → ((time : ℕ) → time < frames → soundedAt t time ≡ some (from + time)) → cues lines t frames ≡ stretch from frames 0 lines
+run-is : (lines : List ℕ) (t : Transport) (from frames : ℕ) → ascends lines ≡ true → ((time : ℕ) → time < frames → soundedAt t time ≡ some (from + time))
+    → cues lines t frames ≡ stretch from frames 0 lines
 run-is lines t from zero up s = sym (no-frames from 0 lines)
 run-is lines t from (suc frames) up s =
     ap (λ (l : List Cue). l ++ cuesAt lines frames (soundedAt t frames)) (run-is lines t from frames up (λ time g. s time (omega arith)))
@@ -129,7 +130,8 @@ module _ (lines : List ℕ) (t : Transport) (up : ascends lines ≡ true) (is : 
       ∙ ap (λ (c : List Cue). c ++ map (later frames) (cues lines (movedTo t start Playing) more)) (straight-on start end frames on k (omega arith) (omega arith))
 
   -- frames that reach the length with no loop: nothing sounds after them
-  pub ends-off : (frames more : ℕ) → t .looping ≡ Off → t .position + frames ≡ t .length → t .position + (frames + more) ≤ 2 ^ 64 - 1 → cues lines t (frames + more) ≡ stretch (t .position) frames 0 lines
+  pub ends-off : (frames more : ℕ) → t .looping ≡ Off → t .position + frames ≡ t .length → t .position + (frames + more) ≤ 2 ^ 64 - 1
+      → cues lines t (frames + more) ≡ stretch (t .position) frames 0 lines
   ends-off frames more off e h =
       rest-is frames more Ended h (simp (off, e, le-leb (t .length) (t .length) (omega arith)))
       ∙ ap (λ (c : List Cue). cues lines t frames ++ map (later frames) c) (silent lines (movedTo t (t .length) Stopped) more (λ time. refl)) ∙ append-nil (cues lines t frames)

@@ -34,7 +34,12 @@ module _ (part before : List ℕ) (at from place time : ℕ) where
     pub same : sets out word (left i) ≡ sets before at words
 
   pub part-begins : Wrote before at 0
-  part-begins = record { within = zero-le; long = refl; next = ap (λ (n : ℕ). at + length (partWords time from n part)) (add-zero place); same = ap (λ (n : ℕ). sets before at (partWords time from n part)) (add-zero place) }
+  part-begins = record {
+    within = zero-le;
+    long = refl;
+    next = ap (λ (n : ℕ). at + length (partWords time from n part)) (add-zero place);
+    same = ap (λ (n : ℕ). sets before at (partWords time from n part)) (add-zero place);
+  }
 
   here : (i : ℕ) → i < length part → left i ≡ timeOf i ∷ (place + i) ∷ left (i + 1)
   here i h =

@@ -15,7 +15,7 @@ use Rattle.cues.specs.Sounding.{Cue, cues}
 
 -- ---- refusals
 
--- the run carries the position past no frame
+-- the run does not carry the position past 2 ^ 64 - 1
 abbrev pub inReach : Transport → ℕ → Bool
 inReach t frames = leb (t .position + frames) (2 ^ 64 - 1)
 
@@ -27,6 +27,7 @@ roomFor cues out = leb (length cues) (length out / 2)
 abbrev pub playTest : Transport → List ℕ → ℕ → List ℕ → Answer Unit
 playTest t lines frames out = cond (inReach t frames) (cond (roomFor (cues lines t frames) out) (accepted tt) (refused 8 [])) (refused 10 [])
 
+-- a test, and then the next
 abbrev pub passing : Answer Unit → Answer Unit → Answer Unit
 passing (accepted u) next = next
 passing (refused number facts) next = refused number facts

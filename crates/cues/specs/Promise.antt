@@ -11,9 +11,8 @@ use Rattle.transport.specs.declared.Transport.{Transport}
 use Rattle.transport.specs.Transports.{sound}
 use Rattle.transport.specs.Changes.{Handed}
 use Rattle.lines.specs.Lines.{linesAnswer}
-use Rattle.cues.specs.Sounding.{Cue, cues}
+use Rattle.cues.specs.Sounding.{Cue, cues, later}
 use Rattle.cues.specs.CueCall.{Said, cueAnswer, cueAfter}
-use Rattle.cues.specs.Plans.{later}
 
 -- ---- one call
 
@@ -89,7 +88,7 @@ abbrev pub framesIn : List Block → ℕ
 framesIn [] = 0
 framesIn (block ∷ rest) = block .frames + framesIn rest
 
--- for a sound transport and one or more blocks that carry the position past no frame, where the whole and every block are accepted
+-- for a sound transport and one or more blocks that do not carry the position past 2 ^ 64 - 1, where the whole and every block are accepted
 abbrev pub ByBlocks : Type 0
 ByBlocks = (lines : List ℕ) (t : Transport) (whole first : Block) (rest : List Block)
     → sound t ≡ true

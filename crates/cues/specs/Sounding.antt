@@ -2,7 +2,7 @@
 use mathlib.Core.Bool.{Bool, true, false, cond}
 use mathlib.Core.List.{List, [], _∷_, _++_}
 use mathlib.Core.Option.{Option, none, some}
-use Prim.Native.Nat.{ℕ, zero, suc}
+use Prim.Native.Nat.{ℕ, zero, suc, _+_}
 use lib.Dec.{eqb}
 use Rattle.transport.specs.declared.playhead.Run.{Run}
 use Rattle.transport.specs.declared.Transport.{Transport}
@@ -43,3 +43,7 @@ cuesAt lines time (some frame) = linesEqual time frame 0 lines
 abbrev pub cues : List ℕ → Transport → ℕ → List Cue
 cues lines t zero = []
 cues lines t (suc time) = cues lines t time ++ cuesAt lines time (soundedAt t time)
+
+-- a cue so much later
+abbrev pub later : ℕ → Cue → Cue
+later time cue = (time + cue .0, cue .1)

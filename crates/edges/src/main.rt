@@ -163,10 +163,14 @@ fn denominator_edges() {
     denominator(0);
 }
 
+fn print_notes(n: usize) {
+    io::print_decimal(1, n as u64);
+}
+
 // The notes that were written, or the number of the refusal.
 fn print_written(a: PatternAnswer) {
     match a {
-        PatternAnswer::Wrote { notes, pattern: _ } => io::print_decimal(1, notes as u64),
+        PatternAnswer::Wrote { notes, pattern: _ } => print_notes(notes),
         PatternAnswer::Uneven => text(b"refused 3"),
         PatternAnswer::TooLong => text(b"refused 4"),
         PatternAnswer::BadNumbers => text(b"refused 6"),
@@ -177,6 +181,10 @@ fn print_written(a: PatternAnswer) {
         } => text(b"refused 7"),
         PatternAnswer::NoRoom => text(b"refused 8"),
     }
+}
+
+fn print_step(step: u32) {
+    print_number(step as u64);
 }
 
 fn print_three(a: u32, b: u32, c: u32) {
@@ -207,10 +215,10 @@ fn turned_edges() {
     let mut out = [0u32; 4];
     text(b"rotate -1, step 0: ");
     pattern::rotate(bar, &[0u32, 1, 0, 0], -1, 16, &mut out);
-    print_number(out[0] as u64);
+    print_step(out[0]);
     text(b"reverse, step 14 len 4: ");
     pattern::reverse(bar, &[14u32, 4, 0, 0], 16, &mut out);
-    print_number(out[0] as u64);
+    print_step(out[0]);
 }
 
 fn gate_edge() {

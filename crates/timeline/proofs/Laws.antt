@@ -8,8 +8,8 @@ use Rattle.meter.specs.Starts.{startOf}
 use Rattle.tempo.specs.Tempos.{TempoPoint}
 use Rattle.transport.specs.declared.Transport.{Transport}
 use Rattle.timeline.specs.Places.{floatOf, secondsOf, frameAtBeat, frameAtBar}
--- how a call answers by what was tested, and how it hands back the transport of a refused change
-pub use Rattle.timeline.proofs.Testing.{ifPassed, by-test, hands-back}
+-- how a call answers by what was tested, and how it hands on a change or hands back the old transport
+pub use Rattle.timeline.proofs.Testing.{ifPassed, by-test, passed-change, refused-change}
 -- what is known of a transport and of maps that passed: sound, and parallel lists
 pub use Rattle.timeline.proofs.Testing.{Passes, passes, both-sound, parallel, tempo-parallel, maps-parallel}
 -- seconds and beats by whether the tempo map has points

@@ -31,11 +31,11 @@ abbrev pub ifPassed : {A : Type 0} → Test → Answer A → Answer A
 ifPassed Passed answer = answer
 ifPassed (Refused why) answer = refused (numberOf why) []
 
+-- what the code answers to its test is what the definitions answer
 module _ {A : Type 0} (t : Transport) (finding : MapTest) (answer : Answer A) where
-  -- what the code answers to its test is what the definitions answer
-  pub by-test : (test : Test) → test ≡ testOf t finding → ifPassed test answer ≡ ifTested t finding answer
+  pub by-test : (test found : Test) → test ≡ testOf t finding → test ≡ found → ifPassed found answer ≡ ifTested t finding answer
   unfolding testOf ifTested
-  by-test test e = ap (λ (x : Test). ifPassed x answer) e ∙ go (sound t) finding
+  by-test test found e is = ap (λ (x : Test). ifPassed x answer) (sym is ∙ e) ∙ go (sound t) finding
     where
       go : (q : Bool) (f : MapTest) → ifPassed (cond q (tested f) (Refused R.Unsound)) answer ≡ cond q (ifSound f answer) (refused 12 [])
       go false f = refl
@@ -44,12 +44,19 @@ module _ {A : Type 0} (t : Transport) (finding : MapTest) (answer : Answer A) wh
       go true TooLong = refl
       go true NotBeat = refl
 
--- a refused change hands back the old transport
-pub hands-back : (t : Transport) (why : Refusal) → readChanged (refusedBy t (reportOf why)) ≡ handed t (refused (numberOf why) [])
+hands-back : (t : Transport) (why : Refusal) → readChanged (refusedBy t (reportOf why)) ≡ handed t (refused (numberOf why) [])
 hands-back t R.Unsound = refl
 hands-back t R.Uneven = refl
 hands-back t R.TooLong = refl
 hands-back t R.NotBeat = refl
+
+-- the same of a change: a test that passed hands on what the change hands, and a refusal hands back the old transport
+module _ (t : Transport) (finding : MapTest) (change : Answer Transport) (test : Test) (e : test ≡ testOf t finding) where
+  pub passed-change : test ≡ Passed → handed t change ≡ handed t (ifTested t finding change)
+  passed-change is = ap (handed t) (by-test t finding change test Passed e is)
+
+  pub refused-change : (why : Refusal) → test ≡ Refused why → readChanged (refusedBy t (reportOf why)) ≡ handed t (ifTested t finding change)
+  refused-change why is = hands-back t why ∙ ap (handed t) (by-test t finding change test (Refused why) e is)
 
 -- 10 where the bar is above 2 ^ 32 - 1, and else the answer at the bar
 module _ (n bar : ℕ) (is : n ≡ bar) where

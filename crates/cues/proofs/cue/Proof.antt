@@ -17,7 +17,8 @@ refused-requires c κs = search needs
 returns : tie.Need-returns
 returns c =
     let s = c .before .before .before .before .before in
-    unsound (s .args .t) (s .args .lines .now) (s .args .frames) (s .args .out .now) Unsound _ refl (sym (c .before .before .is-sound .ensures) ∙ not-true _ (c .before .if1 .taken)) (c .refused .ensures)
+    unsound (s .args .t) (s .args .lines .now) (s .args .frames) (s .args .out .now) Unsound _ refl
+    (sym (c .before .before .is-sound .ensures) ∙ not-true _ (c .before .if1 .taken)) (c .refused .ensures)
 
 check-lines-requires : tie.Need-check-lines-requires
 check-lines-requires c κs = search needs
@@ -38,17 +39,23 @@ enum-told-3 : tie.Need-enum-told-3
 enum-told-3 c = search needs
 
 tested-requires : tie.Need-tested-requires
-tested-requires c κs = (sym (c .before .before .before .before .before .is-sound .ensures) ∙ not-false _ (c .before .before .before .before .if1 .left), sym (ap readLines (c .before .enum-told3 .given .1)) ∙ c .before .before .before .check-lines .ensures)
+tested-requires c κs =
+    let k = c .before .before .before in
+    (sym (k .before .before .is-sound .ensures) ∙ not-false _ (k .before .if1 .left), sym (ap readLines (c .before .enum-told3 .given .1)) ∙ k .check-lines .ensures)
 
 returns-2 : tie.Need-returns-2
 returns-2 c =
-    let s = c .before .before .before .before .before .before .before .before in
-    bad-lines (s .args .t) (s .args .lines .now) (s .args .frames) (s .args .out .now) (sym (c .before .before .before .before .before .is-sound .ensures) ∙ not-false _ (c .before .before .before .before .if1 .left)) TooLong 4 _ refl (sym (ap readLines (c .before .enum-told .given .1)) ∙ c .before .before .before .check-lines .ensures) (c .refused2 .ensures)
+    let k = c .before .before .before in
+    let s = k .before .before .before .before .before in
+    bad-lines (s .args .t) (s .args .lines .now) (s .args .frames) (s .args .out .now) (sym (k .before .before .is-sound .ensures) ∙ not-false _ (k .before .if1 .left))
+    TooLong 4 _ refl (sym (ap readLines (c .before .enum-told .given .1)) ∙ k .check-lines .ensures) (c .refused2 .ensures)
 
 returns-3 : tie.Need-returns-3
 returns-3 c =
-    let s = c .before .before .before .before .before .before .before .before in
-    bad-lines (s .args .t) (s .args .lines .now) (s .args .frames) (s .args .out .now) (sym (c .before .before .before .before .before .is-sound .ensures) ∙ not-false _ (c .before .before .before .before .if1 .left)) Descend 11 _ refl (sym (ap readLines (c .before .enum-told2 .given .1)) ∙ c .before .before .before .check-lines .ensures) (c .refused3 .ensures)
+    let k = c .before .before .before in
+    let s = k .before .before .before .before .before in
+    bad-lines (s .args .t) (s .args .lines .now) (s .args .frames) (s .args .out .now) (sym (k .before .before .is-sound .ensures) ∙ not-false _ (k .before .if1 .left))
+    Descend 11 _ refl (sym (ap readLines (c .before .enum-told2 .given .1)) ∙ k .check-lines .ensures) (c .refused3 .ensures)
 
 same-length : tie.Need-same-length
 same-length c = search needs

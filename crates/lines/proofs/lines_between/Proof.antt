@@ -102,7 +102,8 @@ module _ {M : Type 1} (𝓤 : URA M) (H : Heap 𝓤) (A : Atoms 𝓤) (W : Given
       qed W ((‵ (flft κ q) ⊛ ‵ ftrue) ∷ ‵ Given-in ∷ []) ∵
       move ! (1 ∷ []) $ fsplit ! $ use1 W (‵ Own ⊛ ‵ Own) (shr-slice-copy 𝓤 H A W (named 0) κ u64 .twice s (v ∷ [])) $ split ! $
       move ! (0 ∷ 2 ∷ []) $ fjoin ! $ nothing ! $ move ! (2 ∷ 0 ∷ []) $ fjoin ! $ move ! (2 ∷ 0 ∷ []) $
-      use2 W (raw (Check 𝓤 H A mem run .pre to-check)) (qed W ((‵ (flft κ q) ⊛ ‵ ftrue) ∷ ‵ (owns (ShrSlice (named 0) κ u64 ∷ []) (s, tt) (v ∷ [], tt)) ∷ []) ∵ join ! $ frame ! $ done !) $ frame ! $ done !
+      use2 W (raw (Check 𝓤 H A mem run .pre to-check))
+      (qed W ((‵ (flft κ q) ⊛ ‵ ftrue) ∷ ‵ (owns (ShrSlice (named 0) κ u64 ∷ []) (s, tt) (v ∷ [], tt)) ∷ []) ∵ join ! $ frame ! $ done !) $ frame ! $ done !
 
   check-said : (r : LinesReport) → ent 𝓤 (ensured 𝓤 H A check.ended (check.clauses 𝓤 H A mem run) (κ, tt) (s, tt) tt r) (fact 𝓤 (readLines r ≡ linesAnswer (now s)))
   check-said r = exE 𝓤 _ (λ ws. snd∗ 𝓤 (sem 𝓤 H A (lasts check.ended (κ, tt) (s, tt) ws)) (fact 𝓤 (readLines r ≡ linesAnswer (now s))))
@@ -146,7 +147,8 @@ module _ {M : Type 1} (𝓤 : URA M) (H : Heap 𝓤) (A : Atoms 𝓤) (W : Given
       → ent 𝓤 (⋆ 𝓤 H A (‵ (T.the-row α .own (made r z) (mach u u′ ∷ [])) ∷ (‵ (flft κ q) ⊛ ‵ ftrue) ∷ ‵ Given-in ∷ [])) (Post (mach u u′))
   exits r u z u′ e f =
       qed W (‵ (T.the-row α .own (made r z) (mach u u′ ∷ [])) ∷ (‵ (flft κ q) ⊛ ‵ ftrue) ∷ ‵ Given-in ∷ []) ∵
-      suffices ! _ (ends-at 𝓤 H A between.ended stayed (between.clauses 𝓤 H A mem run) W (((κ, tt), (q, tt), tt, (s, (x, (y, tt))), at), tt) (mach u u′) (made r z) (tt, (tt, (tt, tt))) (tt, (tt, (tt, tt)))) $
+      suffices ! _ (ends-at 𝓤 H A between.ended stayed (between.clauses 𝓤 H A mem run) W (((κ, tt), (q, tt), tt, (s, (x, (y, tt))), at), tt)
+      (mach u u′) (made r z) (tt, (tt, (tt, tt))) (tt, (tt, (tt, tt)))) $
       says ! (e, f) $ move ! (1 ∷ []) $ frame ! $ move ! (1 ∷ 0 ∷ []) $ frame ! $ done !
 
   module _ (C : Calls 𝓤 H) (Λ : Loops 𝓤 H) (fm : FmC 𝓤 H (W .laws) C) (known-check : Triple 𝓤 (C #check) (Check 𝓤 H A mem run)) (known-part : Triple 𝓤 (C #part) (Part 𝓤 H A mem run)) where
@@ -155,19 +157,23 @@ module _ {M : Type 1} (𝓤 : URA M) (H : Heap 𝓤) (A : Atoms 𝓤) (W : Given
     walk p =
         qed W (raw (onEntry 𝓤 H A between.signature (κ, tt) (q, tt) (s, (x, (y, tt))) at) ∷ []) ∵ enter ! C Λ code.function (v ∷ vint w64 x ∷ vint w64 y ∷ []) _ $
         alloc1 ! (λ l₀. alloc1 ! (λ l₁. alloc1 ! (λ l₂. alloc1 ! (λ l₃. alloc1 ! (λ l₄. alloc1 ! (λ l₅. alloc0 ! $ params1 ! $
-        pass1 ! (init ! 8 refl (shr-slice-lawful 𝓤 H A W (named 0) κ u64 .typed s (v ∷ []) p .0)) $ pass1 ! (init ! 6 refl (tt, record { fits = x-fits })) $ pass1 ! (init ! 4 refl (tt, record { fits = y-fits })) $ pass0 ! $
+        pass1 ! (init ! 8 refl (shr-slice-lawful 𝓤 H A W (named 0) κ u64 .typed s (v ∷ []) p .0)) $
+        pass1 ! (init ! 6 refl (tt, record { fits = x-fits })) $ pass1 ! (init ! 4 refl (tt, record { fits = y-fits })) $ pass0 ! $
         -- [room for _5; …; room for _4; …; _3; …; _2; …; _1; …; room for _0; …; what is had at entry]
         move ! (12 ∷ []) $ use1 W (raw (Check 𝓤 H A mem run .pre to-check) ⊛ ‵ Given-in) goes-check $ split ! $
         calls-at ! fm (Check 𝓤 H A mem run) known-check to-check (and-then ! (load ! (from ! (stop !)) (look ! 10 refl)) (no-more !)) (λ u.
-        use1 W (later (some (λ (r : LinesReport). ((‵ (flft κ q) ⊛ ‵ ftrue) ⊛ ‵ (S.the-row .own r (u ∷ []))) ⊛ raw (ensured 𝓤 H A check.ended (check.clauses 𝓤 H A mem run) (κ, tt) (s, tt) tt r)))) (id⊢ 𝓤 _) $ await ! tt $ pick ! (λ r.
+        use1 W (later (some (λ (r : LinesReport). ((‵ (flft κ q) ⊛ ‵ ftrue) ⊛ ‵ (S.the-row .own r (u ∷ []))) ⊛ raw (ensured 𝓤 H A check.ended (check.clauses 𝓤 H A mem run) (κ, tt) (s, tt) tt r))))
+        (id⊢ 𝓤 _) $ await ! tt $ pick ! (λ r.
         split ! $ move ! (1 ∷ []) $ use1 W (raw (fact 𝓤 (readLines r ≡ linesAnswer (now s)))) (check-said r) $ heard ! (readLines r ≡ linesAnswer (now s)) (λ e. split ! $ move ! (1 ∷ []) $
         -- [what r owns; the token; what the parameters own; room for _5; …; room for _4; …; _3; …; _2; …; _1; …; room for _0; …]
         peeks ! S.the-row (Is S.the-row) (shows 𝓤 H A S.the-row) r (u ∷ []) (λ is.
         land ! (from ! (stop !)) (init ! 5 refl (EL.lawful S.the-type S′.the-laws 𝓤 H A W tt .typed r _ is .0)) $
         use3 W (raw (Part 𝓤 H A mem run .pre (to-part r u)) ⊛ ‵ Given-in) (goes-part r u e) $ split ! $
         calls-at ! fm (Part 𝓤 H A mem run) known-part (to-part r u)
-        (and-then ! (load ! (from ! (stop !)) (look ! 10 refl)) (and-then ! (load ! (from ! (stop !)) (look ! 4 refl)) (and-then ! (load ! (from ! (stop !)) (look ! 8 refl)) (and-then ! (load ! (from ! (stop !)) (look ! 6 refl)) (no-more !))))) (λ u′.
-        use1 W (later (some (λ (z : RefT (List ℕ)). ((‵ (flft κ q) ⊛ ‵ ftrue) ⊛ ‵ (ShrSlice (named 0) κ u64 .own z (u′ ∷ []))) ⊛ raw (ensured 𝓤 H A part.ended (part.clauses 𝓤 H A mem run) (κ, tt) (s, (r, (x, (y, tt)))) tt z)))) (id⊢ 𝓤 _) $
+        (and-then ! (load ! (from ! (stop !)) (look ! 10 refl)) (and-then ! (load ! (from ! (stop !)) (look ! 4 refl))
+        (and-then ! (load ! (from ! (stop !)) (look ! 8 refl)) (and-then ! (load ! (from ! (stop !)) (look ! 6 refl)) (no-more !))))) (λ u′.
+        use1 W (later (some (λ (z : RefT (List ℕ)). ((‵ (flft κ q) ⊛ ‵ ftrue) ⊛ ‵ (ShrSlice (named 0) κ u64 .own z (u′ ∷ [])))
+        ⊛ raw (ensured 𝓤 H A part.ended (part.clauses 𝓤 H A mem run) (κ, tt) (s, (r, (x, (y, tt)))) tt z)))) (id⊢ 𝓤 _) $
         await ! tt $ pick ! (λ z.
         split ! $ move ! (1 ∷ []) $ use1 W (raw (fact 𝓤 (now z ≡ rangeOf x y (now s)))) (part-said r z) $ heard ! (now z ≡ rangeOf x y (now s)) (λ f. split ! $ move ! (1 ∷ []) $
         peeks ! (ShrSlice (named 0) κ u64) (Is (ShrSlice (named 0) κ u64)) (shows 𝓤 H A (ShrSlice (named 0) κ u64)) z (u′ ∷ []) (λ is′.
@@ -176,9 +182,11 @@ module _ {M : Type 1} (𝓤 : URA M) (H : Heap 𝓤) (A : Atoms 𝓤) (W : Given
         nothing ! $ move ! (1 ∷ 0 ∷ []) $ fjoin ! $ owned ! S.the-row (Is S.the-row) (EL.makes S.the-type S′.the-plain 𝓤 H A) r (u ∷ []) is $ fjoin ! $
         use1 W (‵ (T.the-row α .own (made r z) (mach u u′ ∷ []))) (makes 𝓤 H A W (S.the-row ∷ ShrSlice (named 0) κ u64 ∷ []) (fields r z) (u ∷ [], (u′ ∷ [], tt))) $
         peeks ! (T.the-row α) (Is (T.the-row α)) (shows 𝓤 H A (T.the-row α)) (made r z) (mach u u′ ∷ []) (λ is″.
-        assigns ! (agg ! (and-then ! (load ! (from ! (stop !)) (look ! 5 refl)) (and-then ! (load ! (from ! (stop !)) (look ! 3 refl)) (no-more !)))) (from ! (stop !)) (init ! 13 refl (LL.lawful (T.the-type α) (T′.the-laws α) 𝓤 H A W .typed (made r z) _ is″ .0)) $
+        assigns ! (agg ! (and-then ! (load ! (from ! (stop !)) (look ! 5 refl)) (and-then ! (load ! (from ! (stop !)) (look ! 3 refl)) (no-more !)))) (from ! (stop !))
+        (init ! 13 refl (LL.lawful (T.the-type α) (T′.the-laws α) 𝓤 H A W .typed (made r z) _ is″ .0)) $
         returns ! (look ! 13 refl) $ forget ! 3 refl $ forget ! 5 refl $ forget ! 7 refl $ forget ! 9 refl $ forget ! 11 refl $ forget ! 13 refl $
-        move ! (13 ∷ 14 ∷ []) $ free1 ! $ move ! (11 ∷ 12 ∷ []) $ free1 ! $ move ! (9 ∷ 10 ∷ []) $ free1 ! $ move ! (7 ∷ 8 ∷ []) $ free1 ! $ move ! (5 ∷ 6 ∷ []) $ free1 ! $ move ! (3 ∷ 4 ∷ []) $ free1 ! $ free0 ! $
+        move ! (13 ∷ 14 ∷ []) $ free1 ! $ move ! (11 ∷ 12 ∷ []) $ free1 ! $ move ! (9 ∷ 10 ∷ []) $ free1 ! $
+        move ! (7 ∷ 8 ∷ []) $ free1 ! $ move ! (5 ∷ 6 ∷ []) $ free1 ! $ move ! (3 ∷ 4 ∷ []) $ free1 ! $ free0 ! $
         by ! (exits r u z u′ e f))))))))))))))))
 
 module _ {M : Type 1} (𝓤 : URA M) (H : Heap 𝓤) (A : Atoms 𝓤) (W : Given 𝓤 H A) (mem : Memory → SProp 𝓤) (run : Routine → Fun 𝓤) where

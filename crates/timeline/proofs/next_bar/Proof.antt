@@ -1,12 +1,13 @@
 -- The test's refusals, each by its number; else the answer is that of the walk, whose lists the test found parallel; 10 comes after the test.
-use mathlib.Core.Path.{sym, ap, _∙_}
+use mathlib.Core.Path.{_∙_}
 use Prim.Native.Nat.{ℕ}
 use denote.Ref.{now}
 use borrow.Author.Needs.{needs}
 use Rattle.numbers.specs.Answers.{accepted}
 use Rattle.meter.specs.Meters.{pointsOf}
 use Rattle.tempo.specs.Tempos.{tempoPoints}
-use Rattle.timeline.specs.Places.{frameAtBar}
+use Rattle.timeline.specs.Tests.{mapsTest}
+use Rattle.timeline.specs.Places.{frameAtBar, nextGridBar}
 use Rattle.timeline.proofs.Testing.{by-test, beyond, within-reach, maps-parallel}
 use Rattle.timeline.specs.declared.tests.Test.the-variants.{Sound as Passed, Refused}
 use Rattle.timeline.proofs.next_bar.Statement.{statement}
@@ -22,28 +23,35 @@ enum-told : tie.Need-enum-told
 enum-told c = search needs
 
 next-grid-bar-requires : tie.Need-next-grid-bar-requires
-next-grid-bar-requires c κs = maps-parallel _ _ _ _ _ _ (c .before .before .maps-test .ensures) (c .enum-told .given .1)
+next-grid-bar-requires c κs =
+    let s = c .before .before .before .before .before .before .args in maps-parallel (now (s .nums)) (now (s .dens)) (now (s .tempos)) (s .t) (now (s .words)) _ (c .before .before .maps-test .ensures) (c .enum-told .given .1)
 
 returns : tie.Need-returns
 returns c =
-    beyond _ _ (c .before .next-grid-bar .ensures) _ (c .if1 .taken) ∙ by-test _ _ _ Passed (sym (c .before .before .enum-told .given .1) ∙ c .before .before .before .before .maps-test .ensures)
+    let s = c .before .before .before .before .before .before .before .before .args in
+    let map = pointsOf (now (s .words)) in
+    let points = tempoPoints (now (s .nums)) (now (s .dens)) (now (s .tempos)) in
+    beyond _ (nextGridBar (s .t) map points (s .every)) (c .before .next-grid-bar .ensures) _ (c .if1 .taken) ∙ by-test (s .t) (mapsTest (now (s .words)) (now (s .nums)) (now (s .dens)) (now (s .tempos))) _ _ Passed (c .before .before .before .before .maps-test .ensures) (c .before .before .enum-told .given .1)
 
 cast-frame-at-bar : tie.Need-cast-frame-at-bar
 cast-frame-at-bar c = search needs
 
 frame-at-bar-requires : tie.Need-frame-at-bar-requires
-frame-at-bar-requires c κs = maps-parallel _ _ _ _ _ _ (c .before .before .before .before .maps-test .ensures) (c .before .before .enum-told .given .1)
+frame-at-bar-requires c κs =
+    let s = c .before .before .before .before .before .before .before .before .args in maps-parallel (now (s .nums)) (now (s .dens)) (now (s .tempos)) (s .t) (now (s .words)) _ (c .before .before .before .before .maps-test .ensures) (c .before .before .enum-told .given .1)
 
 returns-2 : tie.Need-returns-2
-returns-2 c = by-test _ _ _ (Refused _) (sym (c .before .why .given .1) ∙ c .before .before .before .maps-test .ensures)
+returns-2 c =
+    let s = c .before .before .before .before .before .before .before .args in by-test (s .t) (mapsTest (now (s .words)) (now (s .nums)) (now (s .dens)) (now (s .tempos))) _ _ (Refused _) (c .before .before .before .maps-test .ensures) (c .before .why .given .1)
 
 returns-3 : tie.Need-returns-3
 returns-3 c =
     let s = c .before .before .before .before .before .before .before .before .before .args in
-    let frame = frameAtBar (s .t) (pointsOf (now (s .words))) (tempoPoints (now (s .nums)) (now (s .dens)) (now (s .tempos))) in
-    ap accepted (c .frame-at-bar .ensures)
-    ∙ within-reach _ _ (c .before .before .next-grid-bar .ensures) (λ (n : ℕ). accepted (frame n)) (c .before .if1 .left)
-    ∙ by-test _ _ _ Passed (sym (c .before .before .before .enum-told .given .1) ∙ c .before .before .before .before .before .maps-test .ensures)
+    let map = pointsOf (now (s .words)) in
+    let points = tempoPoints (now (s .nums)) (now (s .dens)) (now (s .tempos)) in
+    rw (c .frame-at-bar .ensures)
+    (within-reach _ (nextGridBar (s .t) map points (s .every)) (c .before .before .next-grid-bar .ensures) (λ (n : ℕ). accepted (frameAtBar (s .t) map points n)) (c .before .if1 .left)
+    ∙ by-test (s .t) (mapsTest (now (s .words)) (now (s .nums)) (now (s .dens)) (now (s .tempos))) _ _ Passed (c .before .before .before .before .before .maps-test .ensures) (c .before .before .before .enum-told .given .1))
 
 pub next-bar-spec : {M : Type 1} → statement M
 next-bar-spec =

@@ -1,11 +1,8 @@
 -- The test's refusals, each by its number; else the answer is that of the walk, whose lists the test found parallel.
-use mathlib.Core.Path.{sym, ap, _∙_}
+use denote.Ref.{now}
 use borrow.Author.Needs.{needs}
-use Rattle.transport.specs.Transports.{seekTo}
-use Rattle.transport.specs.Changes.{handed}
-use Rattle.transport.specs.Readings.{readChanged, changedTo}
-use Rattle.timeline.proofs.Testing.{by-test, hands-back, maps-parallel}
-use Rattle.timeline.specs.declared.tests.Test.the-variants.{Sound as Passed, Refused}
+use Rattle.timeline.specs.Tests.{mapsTest}
+use Rattle.timeline.proofs.Testing.{passed-change, refused-change, maps-parallel}
 use Rattle.timeline.proofs.seek_bar.Statement.{statement}
 use Rattle.timeline.proofs.seek_bar.Tie as tie
 
@@ -22,7 +19,8 @@ enum-told : tie.Need-enum-told
 enum-told c = search needs
 
 frame-at-bar-requires : tie.Need-frame-at-bar-requires
-frame-at-bar-requires c κs = maps-parallel _ _ _ _ _ _ (c .before .before .maps-test .ensures) (c .enum-told .given .1)
+frame-at-bar-requires c κs =
+    let s = c .before .before .before .before .before .before .args in maps-parallel (now (s .nums)) (now (s .dens)) (now (s .tempos)) (s .t) (now (s .words)) _ (c .before .before .maps-test .ensures) (c .enum-told .given .1)
 
 sought-requires : tie.Need-sought-requires
 sought-requires c κs = search needs
@@ -32,14 +30,14 @@ done-requires c κs = search needs
 
 returns : tie.Need-returns
 returns c =
-    let t = c .before .before .before .before .before .before .before .before .args .t in
-    ap readChanged (c .handed-back .ensures) ∙ hands-back t (c .before .before .why .given .0 .0) ∙ ap (handed t) (by-test _ _ _ (Refused _) (sym (c .before .before .why .given .1) ∙ c .before .before .before .before .maps-test .ensures))
+    let s = c .before .before .before .before .before .before .before .before .args in
+    rw (c .handed-back .ensures) (refused-change (s .t) (mapsTest (now (s .words)) (now (s .nums)) (now (s .dens)) (now (s .tempos))) _ _ (c .before .before .before .before .maps-test .ensures) _ (c .before .before .why .given .1))
 
 returns-2 : tie.Need-returns-2
 returns-2 c =
-    let t = c .before .before .before .before .before .before .before .before .before .args .t in
-    ap readChanged (c .done .ensures ∙ ap changedTo (c .before .sought .ensures ∙ ap (seekTo t) (c .before .before .frame-at-bar .ensures)))
-    ∙ ap (handed t) (by-test _ _ _ Passed (sym (c .before .before .before .enum-told .given .1) ∙ c .before .before .before .before .before .maps-test .ensures))
+    let s = c .before .before .before .before .before .before .before .before .before .args in
+    rw (c .done .ensures, c .before .sought .ensures, c .before .before .frame-at-bar .ensures)
+    (passed-change (s .t) (mapsTest (now (s .words)) (now (s .nums)) (now (s .dens)) (now (s .tempos))) _ _ (c .before .before .before .before .before .maps-test .ensures) (c .before .before .before .enum-told .given .1))
 
 pub seek-bar-spec : {M : Type 1} → statement M
 seek-bar-spec =

@@ -1,10 +1,12 @@
 -- The test's refusals, each by its number; else the answer is that of the walk, whose lists the test found parallel.
-use mathlib.Core.Path.{sym, ap, _∙_}
+use denote.Ref.{now}
 use borrow.Author.Needs.{needs}
-use Rattle.transport.specs.Changes.{handed, loopChange}
-use Rattle.transport.specs.Readings.{readChanged}
-use Rattle.timeline.proofs.Testing.{by-test, hands-back, maps-parallel}
-use Rattle.timeline.specs.declared.tests.Test.the-variants.{Sound as Passed, Refused}
+use Rattle.meter.specs.Meters.{pointsOf}
+use Rattle.tempo.specs.Tempos.{tempoPoints}
+use Rattle.transport.specs.Changes.{loopChange}
+use Rattle.timeline.specs.Tests.{mapsTest}
+use Rattle.timeline.specs.Places.{frameAtBar}
+use Rattle.timeline.proofs.Testing.{passed-change, refused-change, maps-parallel}
 use Rattle.timeline.proofs.set_loop_bars.Statement.{statement}
 use Rattle.timeline.proofs.set_loop_bars.Tie as tie
 
@@ -21,25 +23,28 @@ enum-told : tie.Need-enum-told
 enum-told c = search needs
 
 frame-at-bar-requires : tie.Need-frame-at-bar-requires
-frame-at-bar-requires c κs = maps-parallel _ _ _ _ _ _ (c .before .before .maps-test .ensures) (c .enum-told .given .1)
+frame-at-bar-requires c κs =
+    let s = c .before .before .before .before .before .before .args in maps-parallel (now (s .nums)) (now (s .dens)) (now (s .tempos)) (s .t) (now (s .words)) _ (c .before .before .maps-test .ensures) (c .enum-told .given .1)
 
 frame-at-bar-requires-2 : tie.Need-frame-at-bar-requires-2
-frame-at-bar-requires-2 c κs = maps-parallel _ _ _ _ _ _ (c .before .before .before .maps-test .ensures) (c .before .enum-told .given .1)
+frame-at-bar-requires-2 c κs =
+    let s = c .before .before .before .before .before .before .before .args in maps-parallel (now (s .nums)) (now (s .dens)) (now (s .tempos)) (s .t) (now (s .words)) _ (c .before .before .before .maps-test .ensures) (c .before .enum-told .given .1)
 
 looped-requires : tie.Need-looped-requires
 looped-requires c κs = search needs
 
 returns : tie.Need-returns
 returns c =
-    let t = c .before .before .before .before .before .before .before .before .args .t in
-    ap readChanged (c .handed-back .ensures) ∙ hands-back t (c .before .before .why .given .0 .0) ∙ ap (handed t) (by-test _ _ _ (Refused _) (sym (c .before .before .why .given .1) ∙ c .before .before .before .before .maps-test .ensures))
+    let s = c .before .before .before .before .before .before .before .before .args in
+    let frame = frameAtBar (s .t) (pointsOf (now (s .words))) (tempoPoints (now (s .nums)) (now (s .dens)) (now (s .tempos))) in
+    rw (c .handed-back .ensures) (refused-change (s .t) (mapsTest (now (s .words)) (now (s .nums)) (now (s .dens)) (now (s .tempos))) (loopChange (s .t) (frame (s .start)) (frame (s .end))) _ (c .before .before .before .before .maps-test .ensures) _ (c .before .before .why .given .1))
 
 returns-2 : tie.Need-returns-2
 returns-2 c =
-    let t = c .before .before .before .before .before .before .before .before .before .args .t in
-    c .looped .ensures
-    ∙ ap (handed t) ((λ i. loopChange t (c .before .before .frame-at-bar .ensures i) (c .before .frame-at-bar2 .ensures i))
-    ∙ by-test _ _ _ Passed (sym (c .before .before .before .enum-told .given .1) ∙ c .before .before .before .before .before .maps-test .ensures))
+    let s = c .before .before .before .before .before .before .before .before .before .args in
+    let frame = frameAtBar (s .t) (pointsOf (now (s .words))) (tempoPoints (now (s .nums)) (now (s .dens)) (now (s .tempos))) in
+    rw (c .looped .ensures, c .before .before .frame-at-bar .ensures, c .before .frame-at-bar2 .ensures)
+    (passed-change (s .t) (mapsTest (now (s .words)) (now (s .nums)) (now (s .dens)) (now (s .tempos))) (loopChange (s .t) (frame (s .start)) (frame (s .end))) _ (c .before .before .before .before .before .maps-test .ensures) (c .before .before .before .enum-told .given .1))
 
 pub set-loop-bars-spec : {M : Type 1} → statement M
 set-loop-bars-spec =

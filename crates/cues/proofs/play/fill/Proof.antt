@@ -13,19 +13,31 @@ use Rattle.cues.proofs.write.part.Reads as part-reads
 use Rattle.lines.proofs.range.part_from.Reads as part-from-reads
 use Rattle.lines.proofs.range.place_of.Reads as place-of-reads
 
+-- what the calls below ask and give
+abbrev calls : lts.Claims
+calls = (
+  place-of-reads.Asked,
+  place-of-reads.Learnt,
+  part-from-reads.Asked,
+  part-from-reads.Learnt,
+  total-reads.Asked,
+  total-reads.Learnt,
+  part-reads.Asked,
+  part-reads.Learnt,
+  laps-reads.Asked,
+  laps-reads.Learnt,
+)
+
 -- where the parts are found
 abbrev Searched : Type 0
-Searched =
-    lts.After-part-from3
-    (place-of-reads.Asked, place-of-reads.Learnt, part-from-reads.Asked, part-from-reads.Learnt, total-reads.Asked, total-reads.Learnt, part-reads.Asked, part-reads.Learnt, laps-reads.Asked, laps-reads.Learnt)
-    reads.Pre
-    reads.Post
+Searched = lts.After-part-from3 calls reads.Pre reads.Post
 
-abbrev startOf : Searched → lts.Start (place-of-reads.Asked, place-of-reads.Learnt, part-from-reads.Asked, part-from-reads.Learnt, total-reads.Asked, total-reads.Learnt, part-reads.Asked, part-reads.Learnt, laps-reads.Asked, laps-reads.Learnt) reads.Pre reads.Post
+abbrev startOf : Searched → lts.Start calls reads.Pre reads.Post
 startOf c = c .before .before .before .before .before .before .before .before .before .before
 
 found : (c : Searched)
-    → Found (startOf c .args .lines .now) (startOf c .args .p) (c .before .before .before .before .before .before .before .place-of .result) (c .before .before .before .before .place-of2 .result) (c .before .before .before .before .before .part-from .result .now) (c .before .before .part-from2 .result .now) (c .part-from3 .result .now)
+    → Found (startOf c .args .lines .now) (startOf c .args .p) (c .before .before .before .before .before .before .before .place-of .result) (c .before .before .before .before .place-of2 .result)
+    (c .before .before .before .before .before .part-from .result .now) (c .before .before .part-from2 .result .now) (c .part-from3 .result .now)
 found c = record {
   up = startOf c .pre .0;
   few = startOf c .pre .1;
@@ -72,44 +84,63 @@ enum-known-n c = search needs
 
 part-requires : tie.Need-part-requires
 part-requires c κs =
-    let f = c .before .before .before .before .before in
-    first-writes (startOf f .args .lines .now) (startOf f .args .p) _ _ _ _ _ (found f) (startOf f .args .out .now) _ _ (c .before .before .before .before .total .ensures) (c .before .before .n .given .1)
+    let n = c .before .before in
+    let t = n .before .before in
+    let f = t .before in
+    first-writes (startOf f .args .lines .now) (startOf f .args .p) _ _ _ _ _ (found f) (startOf f .args .out .now) _ _ (t .total .ensures) (n .n .given .1)
 
 laps-requires : tie.Need-laps-requires
 laps-requires c κs =
-    let f = c .before .before .before .before .before .before .before .before .before in
-    laps-write (startOf f .args .lines .now) (startOf f .args .p) _ _ _ _ _ (found f) (startOf f .args .out .now) _ _ (c .before .before .before .before .before .before .before .before .total .ensures) (c .before .before .before .before .before .before .n .given .1) _ _ (c .before .before .before .part .ensures)
+    let w = c .before .before .before in
+    let n = w .before .before .before in
+    let t = n .before .before in
+    let f = t .before in
+    laps-write (startOf f .args .lines .now) (startOf f .args .p) _ _ _ _ _ (found f) (startOf f .args .out .now) _ _ (t .total .ensures) (n .n .given .1) _ _ (w .part .ensures)
 
 mul-part : tie.Need-mul-part
 mul-part c =
-    let f = c .before .before .before .before .before .before .before .before .before .before .before .before .before .before in
-    record { fits = omega (arith, startOf f .pre .2 .run-fits) }
+    let l = c .before .before .before .before in
+    let t = l .before .before .before .before .before .before .before .before .before in
+    record { fits = omega (arith, startOf (t .before) .pre .2 .run-fits) }
 
 add-part : tie.Need-add-part
 add-part c =
-    let f = c .before .before .before .before .before .before .before .before .before .before .before .before .before .before .before in
-    record { fits = omega (arith, startOf f .pre .2 .run-fits) }
+    let l = c .before .before .before .before .before in
+    let t = l .before .before .before .before .before .before .before .before .before in
+    record { fits = omega (arith, startOf (t .before) .pre .2 .run-fits) }
 
 part-requires-2 : tie.Need-part-requires-2
 part-requires-2 c κs =
-    let f = c .before .before .before .before .before .before .before .before .before .before .before .before .before .before .before in
-    last-writes (startOf f .args .lines .now) (startOf f .args .p) _ _ _ _ _ (found f) (startOf f .args .out .now) _ _ (c .before .before .before .before .before .before .before .before .before .before .before .before .before .before .total .ensures) (c .before .before .before .before .before .before .before .before .before .before .before .before .n .given .1) _ _ (c .before .before .before .before .before .before .before .before .before .part .ensures) _ _ (c .before .before .before .before .before .laps .ensures)
+    let l = c .before .before .before .before .before in
+    let w = l .before .before .before .before in
+    let n = w .before .before .before in
+    let t = n .before .before in
+    let f = t .before in
+    last-writes (startOf f .args .lines .now) (startOf f .args .p) _ _ _ _ _ (found f) (startOf f .args .out .now) _ _ (t .total .ensures) (n .n .given .1)
+    _ _ (w .part .ensures) _ _ (l .laps .ensures)
 
 returns : tie.Need-returns
 returns c =
-    let f = c .before .before .before in
-    let t = c .before .before .total .ensures in
-    (sym (c .enum-told .given .1) ∙ count-is (startOf f .args .lines .now) (startOf f .args .p) _ _ _ _ _ (found f) _ _ t, none-left (startOf f .args .lines .now) (startOf f .args .p) _ _ _ _ _ (found f) (startOf f .args .out .now) _ t (c .enum-told .given .1))
+    let t = c .before .before in
+    let f = t .before in (
+      sym (c .enum-told .given .1) ∙ count-is (startOf f .args .lines .now) (startOf f .args .p) _ _ _ _ _ (found f) _ _ (t .total .ensures),
+      none-left (startOf f .args .lines .now) (startOf f .args .p) _ _ _ _ _ (found f) (startOf f .args .out .now) _ (t .total .ensures) (c .enum-told .given .1),
+    )
 
 same-length : tie.Need-same-length
 same-length c = search needs
 
 returns-2 : tie.Need-returns-2
 returns-2 c =
-    let f = c .before .before .before .before .before .before .before .before .before .before .before .before .before .before .before .before .before .before in
-    let t = c .before .before .before .before .before .before .before .before .before .before .before .before .before .before .before .before .before .total .ensures in
-    let n = c .before .before .before .before .before .before .before .before .before .before .before .before .before .before .before .n .given .1 in
-    (sym n ∙ count-is (startOf f .args .lines .now) (startOf f .args .p) _ _ _ _ _ (found f) _ _ t, all-written (startOf f .args .lines .now) (startOf f .args .p) _ _ _ _ _ (found f) (startOf f .args .out .now) _ _ t n _ _ (c .before .before .before .before .before .before .before .before .before .before .before .before .part .ensures) _ _ (c .before .before .before .before .before .before .before .before .laps .ensures) _ (c .before .before .part2 .ensures .1))
+    let l = c .before .before .before .before .before .before .before .before in
+    let w = l .before .before .before .before in
+    let n = w .before .before .before in
+    let t = n .before .before in
+    let f = t .before in (
+      sym (n .n .given .1) ∙ count-is (startOf f .args .lines .now) (startOf f .args .p) _ _ _ _ _ (found f) _ _ (t .total .ensures),
+      all-written (startOf f .args .lines .now) (startOf f .args .p) _ _ _ _ _ (found f) (startOf f .args .out .now) _ _ (t .total .ensures) (n .n .given .1)
+          _ _ (w .part .ensures) _ _ (l .laps .ensures) _ (c .before .before .part2 .ensures .1),
+    )
 
 pub fill-spec : {M : Type 1} → statement M
 fill-spec =

@@ -43,18 +43,23 @@ same-length c = search needs
 
 returns-2 : tie.Need-returns-2
 returns-2 c =
-    let m = c .before .before .before .before .before .before in
-    let s = c .before .before .before .before .before .before .before .before .before .before .before .before in
-    no-room (s .args .t) (s .args .lines .now) (s .args .frames) (s .args .out .now) (s .pre .0) (s .pre .1) (s .pre .2) (make-requires (m .before .before) _ .reach) _ (m .before .make .ensures) _ _ (c .before .before .before .before .before .fill .ensures) (c .before .enum-told .given .1) _ (c .refused2 .ensures)
+    let f = c .before .before .before .before .before in
+    let m = f .before .before in
+    let s = m .before .before .before .before .before in
+    no-room (s .args .t) (s .args .lines .now) (s .args .frames) (s .args .out .now) (s .pre .0) (s .pre .1) (s .pre .2) (make-requires (m .before) _ .reach)
+    _ (m .make .ensures) _ _ (f .fill .ensures) (c .before .enum-told .given .1) _ (c .refused2 .ensures)
 
 same-length-2 : tie.Need-same-length-2
 same-length-2 c = search needs
 
 returns-3 : tie.Need-returns-3
 returns-3 c =
-    let m = c .before .before .before .before .before .before .before .before .before in
-    let s = c .before .before .before .before .before .before .before .before .before .before .before .before .before .before in
-    in-room (s .args .t) (s .args .lines .now) (s .args .frames) (s .args .out .now) (s .pre .0) (s .pre .1) (s .pre .2) (make-requires (m .before) _ .reach) _ (m .make .ensures) _ _ (c .before .before .before .before .before .before .before .fill .ensures) _ (c .before .before .before .n .given .1) _ (c .before .advanced .ensures)
+    let n = c .before .before .before in
+    let f = n .before .before .before .before in
+    let m = f .before .before in
+    let s = m .before .before .before .before .before in
+    in-room (s .args .t) (s .args .lines .now) (s .args .frames) (s .args .out .now) (s .pre .0) (s .pre .1) (s .pre .2) (make-requires (m .before) _ .reach)
+    _ (m .make .ensures) _ _ (f .fill .ensures) _ (n .n .given .1) _ (c .before .advanced .ensures)
 
 pub played-spec : {M : Type 1} → statement M
 played-spec =

@@ -7,7 +7,8 @@ use Rattle.cues.proofs.write.laps.Statement.{statement}
 use Rattle.cues.proofs.write.laps.Tie as tie
 
 abbrev Inv-loop : tie.InvT-loop
-Inv-loop part out₀ at start lap place time laps word₀ begins₀ left₀ out word begins left = WritesLaps part out₀ at start lap place time laps × Lapped part out₀ at start lap place time laps out word begins left
+Inv-loop part out₀ at start lap place time laps word₀ begins₀ left₀ out word begins left =
+    WritesLaps part out₀ at start lap place time laps × Lapped part out₀ at start lap place time laps out word begins left
 
 abbrev μ-loop : tie.MeasureT-loop
 μ-loop part out₀ at start lap place time laps word₀ begins₀ left₀ out word begins left = left
@@ -26,13 +27,17 @@ part-requires : tie.Need-part-requires Inv-loop μ-loop
 part-requires c κs =
     let l = c .before .before in
     let s = l .before .before .before .before in
-    lap-writes (s .args .part .now) (s .args .out .now) (s .args .at) (s .args .start) (s .args .lap) (s .args .place) (s .args .time) (s .args .laps) _ _ _ _ (l .loop .inv .1) (search needs) (l .loop .inv .0)
+    lap-writes (s .args .part .now) (s .args .out .now) (s .args .at) (s .args .start) (s .args .lap) (s .args .place) (s .args .time) (s .args .laps)
+    _ _ _ _ (l .loop .inv .1) (search needs) (l .loop .inv .0)
 
 add-begins : tie.Need-add-begins Inv-loop μ-loop
 add-begins c =
     let l = c .before .before .before .before .before in
     let s = l .before .before .before .before in
-    let k = lap-time (s .args .part .now) (s .args .out .now) (s .args .at) (s .args .start) (s .args .lap) (s .args .place) (s .args .time) (s .args .laps) _ _ _ _ (l .loop .inv .1) (search needs) (l .loop .inv .0 .times) in
+    let k =
+    lap-time (s .args .part .now) (s .args .out .now) (s .args .at) (s .args .start) (s .args .lap) (s .args .place) (s .args .time) (s .args .laps)
+    _ _ _ _ (l .loop .inv .1) (search needs) (l .loop .inv .0 .times)
+    in
     record { fits = omega (arith, k) }
 
 sub-left : tie.Need-sub-left Inv-loop μ-loop
@@ -44,8 +49,11 @@ loop-less c = search needs
 loop-again : tie.Need-loop-again Inv-loop μ-loop
 loop-again c =
     let l = c .before .before .before .before .before in
-    let s = l .before .before .before .before in
-    (l .loop .inv .0, laps-again (s .args .part .now) (s .args .out .now) (s .args .at) (s .args .start) (s .args .lap) (s .args .place) (s .args .time) (s .args .laps) _ _ _ _ (l .loop .inv .1) (search needs) _ _ (search needs) (c .before .before .part .ensures))
+    let s = l .before .before .before .before in (
+      l .loop .inv .0,
+      laps-again (s .args .part .now) (s .args .out .now) (s .args .at) (s .args .start) (s .args .lap) (s .args .place) (s .args .time) (s .args .laps)
+          _ _ _ _ (l .loop .inv .1) (search needs) _ _ (search needs) (c .before .before .part .ensures),
+    )
 
 same-length : tie.Need-same-length Inv-loop μ-loop
 same-length c = c .before .loop .inv .1 .long

@@ -1,11 +1,6 @@
 -- The composition of the steps.
-use mathlib.Core.Path.{ap, _∙_}
-use lib.IntN.{pos}
-use lib.Ieee.{Float, binary64, ofInt, div}
-use denote.Ref.{now}
 use borrow.Author.Needs.{needs}
-use Rattle.tempo.specs.Tempos.{tempoPoints}
-use Rattle.timeline.specs.Places.{beatsOf, beatAtFrame}
+use Rattle.timeline.specs.Places.{beatAtFrame}
 use Rattle.timeline.proofs.places.beat_at_frame.Statement.{statement}
 use Rattle.timeline.proofs.places.beat_at_frame.Tie as tie
 
@@ -20,11 +15,7 @@ beats-of-requires c κs = search needs
 
 returns : tie.Need-returns
 unfolding beatAtFrame
-returns c =
-    let s = c .before .before .before .before .before .args in
-    c .beats-of .ensures
-    ∙ ap (λ (x : Float). beatsOf (s .t .bpm) (tempoPoints (now (s .nums)) (now (s .dens)) (now (s .tempos))) (div binary64 x (ofInt binary64 (pos (s .t .«sample_rate»)))))
-    (c .before .before .nearest-u64-to-f64 .ensures)
+returns c = rw (c .beats-of .ensures, c .before .before .nearest-u64-to-f64 .ensures)
 
 pub beat-at-frame-spec : {M : Type 1} → statement M
 beat-at-frame-spec =

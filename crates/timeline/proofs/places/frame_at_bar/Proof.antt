@@ -1,10 +1,6 @@
 -- The composition of the steps.
-use mathlib.Core.Path.{ap, _∙_}
-use lib.Ieee.{Float}
-use denote.Ref.{now}
 use borrow.Author.Needs.{needs}
-use Rattle.tempo.specs.Tempos.{tempoPoints}
-use Rattle.timeline.specs.Places.{floatOf, frameAtBeat, frameAtBar}
+use Rattle.timeline.specs.Places.{frameAtBar}
 use Rattle.timeline.proofs.places.frame_at_bar.Statement.{statement}
 use Rattle.timeline.proofs.places.frame_at_bar.Tie as tie
 
@@ -19,10 +15,7 @@ frame-at-beat-requires c κs = search needs
 
 returns : tie.Need-returns
 unfolding frameAtBar
-returns c =
-    let s = c .before .before .before .before .before .before .args in
-    c .frame-at-beat .ensures
-    ∙ ap (frameAtBeat (s .t) (tempoPoints (now (s .nums)) (now (s .dens)) (now (s .tempos)))) (c .before .float-of .ensures ∙ ap floatOf (c .before .before .start .ensures))
+returns c = rw (c .frame-at-beat .ensures, c .before .float-of .ensures, c .before .before .start .ensures)
 
 pub frame-at-bar-spec : {M : Type 1} → statement M
 frame-at-bar-spec =

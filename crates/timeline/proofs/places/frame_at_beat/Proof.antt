@@ -1,8 +1,5 @@
 -- The composition of the steps.
-use mathlib.Core.Path.{ap, _∙_}
-use lib.Ieee.{Float}
 use borrow.Author.Needs.{needs}
-use Rattle.beats.specs.Frames.{framesAt}
 use Rattle.timeline.specs.Places.{frameAtBeat}
 use Rattle.timeline.proofs.places.frame_at_beat.Statement.{statement}
 use Rattle.timeline.proofs.places.frame_at_beat.Tie as tie
@@ -15,7 +12,7 @@ frames-at-requires c κs = search needs
 
 returns : tie.Need-returns
 unfolding frameAtBeat
-returns c = c .frames-at .ensures ∙ ap (λ (x : Float). framesAt x (c .before .before .before .before .args .t .«sample_rate»)) (c .before .seconds-of .ensures)
+returns c = rw (c .frames-at .ensures, c .before .seconds-of .ensures)
 
 pub frame-at-beat-spec : {M : Type 1} → statement M
 frame-at-beat-spec = tie.close (tie.spec seconds-of-requires frames-at-requires returns)

@@ -1,10 +1,5 @@
 -- The composition of the steps.
-use mathlib.Core.Path.{ap, _∙_}
-use Prim.Native.Nat.{ℕ}
-use lib.Ieee.{Float, binary64, toUnsigned}
 use borrow.Author.Needs.{needs}
-use Rattle.rounding.specs.Floats.{floorOf}
-use Rattle.timeline.specs.Places.{gridBar}
 use Rattle.timeline.proofs.places.next_grid_bar.Statement.{statement}
 use Rattle.timeline.proofs.places.next_grid_bar.Tie as tie
 
@@ -21,9 +16,7 @@ grid-bar-requires : tie.Need-grid-bar-requires
 grid-bar-requires c κs = search needs
 
 returns : tie.Need-returns
-returns c =
-    c .grid-bar .ensures
-    ∙ ap (λ (n : ℕ). gridBar n (c .before .before .before .before .before .before .before .args .every)) (c .before .cut-to-u32 .ensures ∙ ap (λ (x : Float). toUnsigned 32 x) (c .before .before .floor .ensures ∙ ap (floorOf binary64) (c .before .before .before .position-bars .ensures)))
+returns c = rw (c .grid-bar .ensures, c .before .cut-to-u32 .ensures, c .before .before .floor .ensures, c .before .before .before .position-bars .ensures)
 
 pub next-grid-bar-spec : {M : Type 1} → statement M
 next-grid-bar-spec =

@@ -1,8 +1,6 @@
 -- The composition of the steps; the literal 1.0 is the definition's `float1`.
-use mathlib.Core.Path.{ap, _∙_}
-use lib.Ieee.{Float, ofBits}
+use lib.Ieee.{ofBits}
 use borrow.Author.Needs.{needs}
-use Rattle.rounding.specs.Floats.{maximum, float1}
 use Rattle.timeline.proofs.places.own_tempo.Statement.{statement}
 use Rattle.timeline.proofs.places.own_tempo.Tie as tie
 
@@ -14,7 +12,7 @@ max-f64-requires c κs = search needs
 
 returns : tie.Need-returns
 unfolding ofBits
-returns c = c .max-f64 .ensures ∙ ap (λ (x : Float). maximum x float1) (c .before .widened .ensures)
+returns c = rw (c .max-f64 .ensures, c .before .widened .ensures)
 
 pub own-tempo-spec : {M : Type 1} → statement M
 own-tempo-spec = tie.close (tie.spec widened-requires max-f64-requires returns)

@@ -1,10 +1,8 @@
 -- The composition of the steps; the literals 0.0 and 1.0 are the definition's `float0` and `float1`.
-use mathlib.Core.Path.{ap, _∙_}
 use lib.Ieee.{ofBits}
 use denote.Ref.{now}
 use borrow.Author.Needs.{needs}
 use Rattle.meter.specs.Meters.{pointsOf}
-use Rattle.timeline.specs.Places.{nearestBeat}
 use Rattle.timeline.proofs.Bars.{bars-are}
 use Rattle.timeline.proofs.places.position_bars.Statement.{statement}
 use Rattle.timeline.proofs.places.position_bars.Tie as tie
@@ -37,7 +35,7 @@ returns : tie.Need-returns
 unfolding ofBits
 returns c =
     let s = c .before .before .before .before .before .before .before .before .before .before .before .args in
-    bars-are (s .t) (pointsOf (now (s .words))) _ _ (c .before .before .before .before .before .before .nearest-beat .ensures ∙ ap nearestBeat (c .before .before .before .before .before .before .before .position-beats .ensures)) _ _ _ _ _
+    bars-are (s .t) (pointsOf (now (s .words))) _ _ (rw (c .before .before .before .before .before .before .nearest-beat .ensures, c .before .before .before .before .before .before .before .position-beats .ensures)) _ _ _ _ _
     (record { bar-is = c .before .before .before .before .before .current-bar .ensures; start-is = c .before .before .before .before .start .ensures; len-is = c .before .before .before .length .ensures; part-is = c .before .part-of .ensures; kept-is = c .clamp-f64 .ensures })
 
 pub position-bars-spec : {M : Type 1} → statement M
