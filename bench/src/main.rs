@@ -3,6 +3,7 @@
 
 mod benching;
 mod meter;
+mod pattern;
 mod tempo;
 mod transport;
 mod units;
@@ -21,6 +22,7 @@ fn main() {
         "meter" => meter::rows(&asked),
         "tempo" => tempo::rows(&asked),
         "transport" => transport::rows(&asked),
+        "pattern" => pattern::rows(&asked),
         _ => {
             eprintln!("twin: no layer {layer}");
             std::process::exit(2);

@@ -4,6 +4,8 @@
 pub use Rattle.meter.proofs.Scanning.{pointAt, left, points-step, points-end, points-length}
 -- a map without problems ascends
 pub use Rattle.meter.proofs.Passing.{sound-ascends}
+-- the walk by segments, a turn at a time, for crates that carry it from bar to bar
+pub use Rattle.meter.proofs.Walking.{nearer-above, nearer-else, later-in, later-out, len-rest, segments-over, segments-turn, one, start-zero, start-segments}
 -- a start whose walk is not refused is the sum of the lengths before it; starts never fall where the pickup is not below 0
 pub use Rattle.meter.proofs.Exactness.{exact-beat, start-exact, starts-rise}
 -- the same for a score that fits, and the count is the first bar that starts at or after the beat

@@ -17,7 +17,7 @@ fn one_at_least(n: u32) -> u32
 }
 
 // The meter where no point is in force: max(default, 1)/4.
-fn unlisted(default: u32) -> MeterPoint
+pub fn unlisted(default: u32) -> MeterPoint
     ensures { λ r. ⌜ r ≡ fallback default ⌝ }
 {
     MeterPoint {

@@ -63,7 +63,8 @@ positive60 : T (positive float60)
 unfolding ofBits
 positive60 = tt
 
-seconds-up : (x y tempo : Float) → T (positive tempo) → Up x y → Up (secondsAt x tempo) (secondsAt y tempo)
+-- at one tempo
+pub seconds-up : (x y tempo : Float) → T (positive tempo) → Up x y → Up (secondsAt x tempo) (secondsAt y tempo)
 seconds-up x y tempo p h = div-up binary64 (mul binary64 x float60) (mul binary64 y float60) tempo p (mul-up binary64 x y float60 positive60 h)
 
 seconds-zero : (x tempo : Float) → T (positive tempo) → Zero x → Zero (secondsAt x tempo)
@@ -208,13 +209,16 @@ at-start : (tempo : Float) → T (positive tempo) → Stands float0 float0 tempo
 unfolding fits
 at-start tempo p = record { held = tt; sign = le-refl 0; beat = zero-reached; speed = p }
 
--- seconds never fall as the beat rises
-pub seconds-rise : (points : List TempoPoint) → RisingMap points → (a b : Float) → T (finite a) → T (finite b) → T (le float0 a) → T (le a b)
-    → T (le (secondsAtBeat points a) (secondsAtBeat points b))
+-- seconds never fall as the beat rises, and are never below 0
+pub seconds-at-up : (points : List TempoPoint) → RisingMap points → (a b : Float) → T (finite a) → T (finite b) → T (le float0 a) → T (le a b)
+    → Up (secondsAtBeat points a) (secondsAtBeat points b)
 unfolding wholeWalk
-seconds-rise [] r a b A B h k = zero-reached .reached
-seconds-rise (first ∷ rest) r a b A B h k =
+seconds-at-up [] r a b A B h k = le-refl 0
+seconds-at-up (first ∷ rest) r a b A B h k =
     let p : FromZero a = record { number = A; reached = h } in
     let start = from-zero-on float0 (first .at) zero-reached (r .0 .number) (r .0 .later) in
-    up→le (walkTo a rest float0 float0 (first .tempo)) (walkTo b rest float0 float0 (first .tempo))
-    (walk-up rest float0 float0 (first .tempo) a b (at-start (first .tempo) (r .0 .tempo)) (from-start (first .at) rest start (r .1)) p (from-zero-on a b p B k) h k)
+    walk-up rest float0 float0 (first .tempo) a b (at-start (first .tempo) (r .0 .tempo)) (from-start (first .at) rest start (r .1)) p (from-zero-on a b p B k) h k
+
+pub seconds-rise : (points : List TempoPoint) → RisingMap points → (a b : Float) → T (finite a) → T (finite b) → T (le float0 a) → T (le a b)
+    → T (le (secondsAtBeat points a) (secondsAtBeat points b))
+seconds-rise points r a b A B h k = up→le (secondsAtBeat points a) (secondsAtBeat points b) (seconds-at-up points r a b A B h k)

@@ -14,7 +14,7 @@ pub fn tempo_of(bits: u32) -> f64
 }
 
 // The seconds at a beat `to`, after `secs` seconds at the beat `from`, with one tempo between.
-fn later(secs: f64, from: f64, to: f64, tempo: f64) -> f64
+pub fn later(secs: f64, from: f64, to: f64, tempo: f64) -> f64
     ensures { λ r. ⌜ r ≡ elapsed secs from to tempo ⌝ }
 {
     secs + frames::seconds_at(to - from, tempo)

@@ -18,25 +18,22 @@ use crate::form::Op;
 use maps::Size;
 use rng::Rng;
 
-/// Once in so many questions of an op stands a list of as many points or lines as are taken, and one that is longer by
-/// one.
+/// Once in so many questions of an op stands a list of as many points, lines or notes as are taken, and one that is
+/// longer by one.
 const HUGE_EVERY: u64 = 4096;
 const HUGE_AT: u64 = 1000;
 /// More rarely for a transport, of which many ops have maps.
 const MAPS_EVERY: u64 = 16_384;
-/// Once in so many stands a list of as many notes as are taken, and one that is longer by one.
-const NOTES_EVERY: u64 = 512;
-const NOTES_AT: u64 = 300;
+/// In a run of `layer` they stand so early that the replayed sample has one of each.
+const LAYER_AT: u64 = 215;
 
-/// The size of the lists at a place of an op's run.
+/// The size of the lists at a place of an op's run. Of notes some have as many as fill a smaller room for sorting.
 fn size(op: u32, place: u64) -> Size {
-    let (every, first, most) = match op {
-        0x30..=0x46 => (MAPS_EVERY, HUGE_AT, 65_536),
-        0x60.. => (NOTES_EVERY, NOTES_AT, 4_096),
-        _ => (HUGE_EVERY, HUGE_AT, 65_536),
-    };
+    let every = if (0x30..=0x46).contains(&op) { MAPS_EVERY } else { HUGE_EVERY };
+    let first = if op == 0x62 { LAYER_AT } else { HUGE_AT };
     match (place % every).checked_sub(first) {
-        Some(past @ 0..=5) => Size::Huge(most + past as usize % 2, past < 2),
+        Some(past @ 4..=5) if op >= 0x60 => Size::Huge(1_020 + past as usize, false),
+        Some(past @ 0..=5) => Size::Huge(if op >= 0x60 { 4_096 } else { 65_536 } + past as usize % 2, past < 2),
         _ => Size::Small,
     }
 }

@@ -1,7 +1,6 @@
 //! Questions 60 to 6b: patterns, on the grid and off it, with equal steps, saturated steps and full outputs.
 
 use super::maps::Size;
-use super::meter::room;
 use super::rng::Rng;
 use super::write::Asked;
 
@@ -27,15 +26,15 @@ fn grid(r: &mut Rng) -> Grid {
     Grid { bars, steps_per_bar }
 }
 
-/// The flat words of so many notes, with steps that are multiples of a number but for some.
-fn some_notes(r: &mut Rng, count: usize, multiple: u32) -> Vec<u32> {
-    let mut words = Vec::with_capacity(4 * count);
-    for k in 0..count {
+/// So many notes, with steps that are multiples of a number but for some.
+fn some_notes(r: &mut Rng, count: usize, multiple: u32) -> Vec<[u32; 4]> {
+    let most = if r.once_in(2) { 12 } else { 12.max(4 * count as u64) };
+    let note = |k: usize| {
         let step = match r.below(12) {
             0 => r.u32(),
             1 => u32::MAX - r.below(20) as u32,
             2 => r.below(40) as u32,
-            _ => multiple.wrapping_mul(r.below(12) as u32),
+            _ => multiple.wrapping_mul(r.below(most) as u32),
         };
         let len = match r.below(12) {
             0 => r.u32(),
@@ -46,19 +45,38 @@ fn some_notes(r: &mut Rng, count: usize, multiple: u32) -> Vec<u32> {
         let gain = if r.once_in(2) { (r.below(9) as f32 / 8.0).to_bits() } else { r.f32_bits() };
         // most tags tell their place, so that a changed order shows
         let tag = if r.once_in(8) { r.u32() } else { k as u32 };
-        words.extend([step, len, gain, tag]);
+        [step, len, gain, tag]
+    };
+    (0..count).map(note).collect()
+}
+
+/// The flat words of a list of notes: ascending, descending or in any order, once in a while not of whole notes, and
+/// rarely as long as the form takes, or longer by one.
+fn notes(r: &mut Rng, size: Size, multiple: u32) -> Vec<u32> {
+    let count = match size {
+        Size::Huge(count, _) => count,
+        Size::Small if r.once_in(64) => r.pick(&[16, 17, 31, 63, 64, 65, 100, 100]),
+        Size::Small => r.below(10) as usize,
+    };
+    let mut notes = some_notes(r, count, multiple);
+    match r.below(4) {
+        0 => notes.sort_by_key(|note| note[0]),
+        1 => notes.sort_by_key(|note| !note[0]),
+        _ => {}
+    }
+    let mut words = notes.concat();
+    if !matches!(size, Size::Huge(_, true)) && r.once_in(12) {
+        words.extend([1, 2, 3].iter().take(1 + r.below(3) as usize));
+    }
+    if matches!(size, Size::Huge(_, false)) && r.once_in(8) {
+        words.resize(r.between(65_536, 65_538) as usize, 0);
     }
     words
 }
 
-/// A list of notes, once in a while not of whole notes.
-fn notes(r: &mut Rng, size: Size, multiple: u32) -> Vec<u32> {
-    let count = if let Size::Huge(count, _) = size { count } else { r.below(10) as usize };
-    let mut words = some_notes(r, count, multiple);
-    if !matches!(size, Size::Huge(_, true)) && r.once_in(12) {
-        words.extend([1, 2, 3].iter().take(1 + r.below(3) as usize));
-    }
-    words
+/// How many words of output: about what the notes take, but few where they are many and the question is a small one.
+fn room(r: &mut Rng, notes: usize, size: Size) -> u32 {
+    if size == Size::Small && notes > 500 { r.below(60) as u32 } else { super::meter::room(r, notes.min(16_385), 4) }
 }
 
 /// A factor of a length or a gain.
@@ -70,7 +88,7 @@ fn factor(r: &mut Rng) -> u32 {
     }
 }
 
-/// 60. No more copies than can be walked where none of them is counted by its notes.
+/// 60.
 fn repeat(r: &mut Rng, size: Size) -> Asked {
     let mut g = grid(r);
     let past = r.once_in(16);
@@ -79,17 +97,15 @@ fn repeat(r: &mut Rng, size: Size) -> Asked {
         (g.bars, g.steps_per_bar) = (1 << 31, 1 << 31);
     }
     let notes = notes(r, size, 1);
-    let each = notes.len() / 4;
     let times = match r.below(6) {
         _ if past => r.below(9) as u32,
-        0 if each > 0 => r.u32(),
-        0 => r.below(70_000) as u32,
+        0 => r.u32(),
         1 => r.below(2) as u32,
-        2 if each > 0 && size == Size::Small => r.below(40) as u32,
+        2 if size == Size::Small => r.below(40) as u32,
         _ => r.below(6) as u32,
     };
-    let entries = each.saturating_mul(times as usize).min(20_000);
-    Asked::default().u32(g.bars).u32(g.steps_per_bar).u32(times).u32(room(r, entries, 4)).words(&notes)
+    let entries = (notes.len() / 4).saturating_mul(times as usize);
+    Asked::default().u32(g.bars).u32(g.steps_per_bar).u32(times).u32(room(r, entries, size)).words(&notes)
 }
 
 /// 63.
@@ -104,7 +120,7 @@ fn slice(r: &mut Rng, size: Size) -> Asked {
     };
     let end = u64::from(start) + u64::from(len);
     let kept = notes.chunks_exact(4).filter(|n| start <= n[0] && u64::from(n[0]) < end).count();
-    Asked::default().u32(g.bars).u32(start).u32(len).u32(g.steps_per_bar).u32(room(r, kept, 4)).words(&notes)
+    Asked::default().u32(g.bars).u32(start).u32(len).u32(g.steps_per_bar).u32(room(r, kept, size)).words(&notes)
 }
 
 /// 64.
@@ -129,15 +145,16 @@ fn stretch(r: &mut Rng, size: Size) -> Asked {
         }
     }
     let entries = notes.len() / 4;
-    Asked::default().u32(bars).u32(num).u32(den).u32(r.below(20) as u32).u32(room(r, entries, 4)).words(&notes)
+    Asked::default().u32(bars).u32(num).u32(den).u32(r.below(20) as u32).u32(room(r, entries, size)).words(&notes)
 }
 
-/// 6a. Every step is walked by the original, so there are not too many.
+/// 6a. The original walks every step; past some number of them the oracle has a formula.
 fn euclidean(r: &mut Rng, size: Size) -> Asked {
     let steps = match r.below(12) {
         0 => 0,
         1 if size != Size::Small => r.below(70_000) as u32,
         2 => r.below(300) as u32,
+        3 => r.u32(),
         _ => r.below(24) as u32,
     };
     let pulses = match r.below(6) {
@@ -145,11 +162,12 @@ fn euclidean(r: &mut Rng, size: Size) -> Asked {
         1 => steps,
         2 => r.pick(&[0, 1]),
         3 if r.once_in(4) => r.u32(),
+        4 => steps.min(r.below(24) as u32),
         _ => r.below(u64::from(steps) + 1) as u32,
     };
     let len = if r.once_in(3) { r.u32() } else { r.below(4) as u32 };
-    let entries = (pulses as usize).min(16_385);
-    Asked::default().u32(pulses).u32(steps).u32(r.u32()).u32(len).u32(grid(r).steps_per_bar).u32(room(r, entries, 4))
+    let asked = Asked::default().u32(pulses).u32(steps).u32(r.u32()).u32(len).u32(grid(r).steps_per_bar);
+    asked.u32(room(r, pulses as usize, size))
 }
 
 /// 6b.
@@ -161,8 +179,7 @@ fn tuplet(r: &mut Rng, size: Size) -> Asked {
     };
     let in_steps = if r.once_in(3) { r.u32() } else { r.below(40) as u32 };
     let len = if r.once_in(3) { r.u32() } else { r.below(4) as u32 };
-    let entries = (count as usize).min(16_385);
-    Asked::default().u32(count).u32(in_steps).u32(r.u32()).u32(len).u32(room(r, entries, 4))
+    Asked::default().u32(count).u32(in_steps).u32(r.u32()).u32(len).u32(room(r, count as usize, size))
 }
 
 pub fn question(op: u32, r: &mut Rng, size: Size) -> Asked {
@@ -185,7 +202,7 @@ pub fn question(op: u32, r: &mut Rng, size: Size) -> Asked {
         let bars = if r.once_in(3) { r.u32() } else { r.below(5) as u32 };
         let asked = asked.u32(g.bars).u32(bars);
         let asked = if op == 0x61 { asked.u32(g.steps_per_bar) } else { asked };
-        return asked.u32(room(r, entries, 4)).words(&a).words(&b);
+        return asked.u32(room(r, entries, size)).words(&a).words(&b);
     }
     let total = i64::from(g.bars).saturating_mul(i64::from(g.steps_per_bar.max(1)));
     let asked = asked.u32(g.bars);
@@ -202,5 +219,5 @@ pub fn question(op: u32, r: &mut Rng, size: Size) -> Asked {
         0x67 => asked.u32(if r.once_in(4) { r.u32() } else { r.below(10) as u32 }),
         _ => asked.u32(factor(r)),
     };
-    asked.u32(room(r, a.len() / 4, 4)).words(&a)
+    asked.u32(room(r, a.len() / 4, size)).words(&a)
 }

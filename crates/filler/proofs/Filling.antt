@@ -1,0 +1,100 @@
+-- The loop over the lines: the entries before k are lines, those from k on are still marks, and both carried states hold.
+use mathlib.Core.Path.{_≡_, refl, sym, ap, _∙_, subst}
+use mathlib.Core.List.{List, [], _∷_}
+use Prim.Native.Nat.{ℕ, zero, suc, _+_, _-_, _≤_, _<_}
+use native.Mathlib.Nat.{ne-of-lt}
+use native.Mathlib.Omega.{arith}
+use borrow.Author.Count.{below-none, below-more}
+use lib.IntN.{ℤ}
+use lib.ListN.{length, getD, set, length-set}
+use lib.Seq.{getD-set-same, getD-set-other, ext-getD}
+use lib.Ieee.{Float}
+use Rattle.beats.specs.declared.Beat.{Beat}
+use Rattle.meter.specs.Meters.{pointsOf}
+use Rattle.meter.specs.Starts.{startOf}
+use Rattle.tempo.specs.Tempos.{tempoPoints}
+use Rattle.transport.specs.declared.Transport.{Transport}
+use Rattle.timeline.specs.Places.{floatOf, frameAtBeat, frameAtBar}
+use Rattle.filler.specs.declared.segments.Segment.{Segment}
+use Rattle.filler.specs.declared.stands.Stand.{Stand}
+use Rattle.filler.specs.Fills.{entries, barLines}
+use Rattle.filler.specs.Numbers.{markOf, Marked}
+use Rattle.filler.specs.Carried.{startIn, Before, Has, Serves, Stopped}
+
+-- ---- entries by their places
+
+module _ (ask : ℕ → ℕ) where
+  pub entries-length : (k n : ℕ) → length (entries ask k n) ≡ n
+  unfolding entries
+  entries-length k zero = refl
+  entries-length k (suc n) = ap suc (entries-length (suc k) n)
+
+  pub entries-at : (k n j : ℕ) → j < n → getD (entries ask k n) j 0 ≡ ask (k + j)
+  unfolding entries
+  entries-at k zero j h = absurd (omega arith)
+  entries-at k (suc n) zero h = ap ask (plus k)
+    where
+      plus : (a : ℕ) → a ≡ a + 0
+      plus a = omega arith
+  entries-at k (suc n) (suc j) h = entries-at (suc k) n j (omega arith) ∙ ap ask (plus k j)
+    where
+      plus : (a b : ℕ) → suc a + b ≡ a + suc b
+      plus a b = omega arith
+
+  are-entries : (out : List ℕ) → ((j : ℕ) → j < length out → getD out j 0 ≡ ask j) → out ≡ entries ask 0 (length out)
+  are-entries out h =
+      ext-getD 0 out (entries ask 0 (length out)) (sym (entries-length 0 (length out)))
+      (λ j l. h j l ∙ sym (entries-at 0 (length out) j l ∙ ap ask (from-zero j)))
+    where
+      from-zero : (a : ℕ) → 0 + a ≡ a
+      from-zero a = omega arith
+
+-- ---- the loop
+
+module _ (t : Transport) (words : List ℕ) (nums : List ℤ) (dens tempos : List ℕ) where
+  abbrev line : ℕ → ℕ
+  line = frameAtBar t (pointsOf words) (tempoPoints nums dens tempos)
+
+  pub record Filled (n : ℕ) (out : List ℕ) (seg : Segment) (beat : Float) (stand : Stand) (k : ℕ) : Type 0 where
+    pub long : length out ≡ n
+    pub below : (j : ℕ) → j < k → getD out j 0 ≡ line j
+    pub marks : (j : ℕ) → k ≤ j → j < n → getD out j 0 ≡ markOf (pointsOf words) j
+    pub segment : Before (pointsOf words) (t .«beats_per_bar») (t .pickup) k seg
+    pub tempo : Serves nums dens tempos beat stand
+
+  pub filled-none : (n : ℕ) (out : List ℕ) (seg : Segment) (beat : Float) (stand : Stand) → Marked (pointsOf words) n out
+      → Before (pointsOf words) (t .«beats_per_bar») (t .pickup) 0 seg → Serves nums dens tempos beat stand → Filled (length out) out seg beat stand 0
+  filled-none n out seg beat stand m b s =
+      record {
+        long = refl;
+        below = below-none (λ (j : ℕ). getD out j 0 ≡ line j);
+        marks = λ j h l. m .marks j (omega (arith, m .long));
+        segment = b;
+        tempo = s;
+      }
+
+  module _ (n : ℕ) (out : List ℕ) (seg : Segment) (beat : Float) (stand : Stand) (k : ℕ) (f : Filled n out seg beat stand k) where
+    pub filled-all : length out ≤ k → out ≡ barLines t (pointsOf words) (tempoPoints nums dens tempos) n
+    filled-all h = are-entries line out (λ j l. f .below j (omega arith)) ∙ ap (entries line 0) (f .long)
+
+    module _ (inside : k < length out) where
+      pub mark-here : getD out k 0 ≡ markOf (pointsOf words) k
+      mark-here = f .marks k (omega arith) (omega (arith, f .long))
+
+      -- what the calls of one turn ensure
+      module _ (seg' : Segment) (start : Beat) (next : Float) (stand' : Stand) (v : ℕ)
+          (has : Has (pointsOf words) (t .«beats_per_bar») (t .pickup) k seg') (e : start ≡ startIn seg' k) (g : next ≡ floatOf start)
+          (stopped : Stopped nums dens tempos next stand') (is : v ≡ frameAtBeat t (tempoPoints nums dens tempos) next) where
+        value : v ≡ line k
+        unfolding frameAtBar
+        value = is ∙ ap (frameAtBeat t (tempoPoints nums dens tempos)) (g ∙ ap floatOf (e ∙ has .start))
+
+        pub filled-more : Filled n (set out k v) seg' next stand' (k + 1)
+        filled-more =
+            record {
+              long = length-set out k v ∙ f .long;
+              below = below-more (λ (j : ℕ). getD (set out k v) j 0 ≡ line j) k (λ j l. getD-set-other out k j v 0 (ne-of-lt l) ∙ f .below j l) (getD-set-same out k v 0 inside ∙ value);
+              marks = λ j h l. getD-set-other out k j v 0 (λ d. omega arith) ∙ f .marks j (omega arith) l;
+              segment = has .next;
+              tempo = stopped .serves;
+            }

@@ -1,0 +1,12 @@
+pub mod Order
+pub mod Numbering
+pub mod Marking
+pub mod Standing
+pub mod Serving
+pub mod Filling
+pub mod Testing
+pub mod Ordering
+pub mod Rising
+pub mod Descends
+pub mod Readings
+pub mod Laws

@@ -1,0 +1,103 @@
+-- A tempo map without problems whose numerators are small has points whose floats go up from 0.
+use mathlib.Core.Path.{_≡_, refl, sym, ap, _∙_, subst}
+use mathlib.Core.Bool.{Bool, true, false, not, _&&_, true≢false}
+use mathlib.Core.List.{List, [], _∷_, _++_}
+use Prim.Native.Nat.{ℕ, suc, _<_}
+use native.Mathlib.Omega.{arith}
+use lib.Dec.{T, ltb}
+use lib.IntN.{ℤ, pos}
+use lib.Ieee.{Float, inf, lt, le, binary32, ofBits}
+use borrow.Author.Tests.{not-false}
+use lib.ListN.{length}
+use Rattle.rounding.specs.Floats.{float0}
+use Rattle.beats.specs.declared.Beat.{Beat}
+use Rattle.beats.specs.Beats.{isBeat, wholeBeat}
+use Rattle.beats.specs.Sums.{belowBeat}
+use Rattle.beats.specs.Frames.{beatFloat}
+use Rattle.beats.proofs.Laws.{and-left, and-right, beat-above}
+use Rattle.tempo.specs.Answers.{allBeats}
+use Rattle.tempo.specs.Tempos.{tempoOf, tempoPoints}
+use Rattle.tempo.specs.Rising.{Follows, RisingFrom, RisingMap}
+use Rattle.tempo.proofs.Laws.{rising-none, rising-more, finite-tempo, up→le}
+use Rattle.problems.specs.Problems.{Problem, when, Listed, listed, soundTempo, tempoBits, tempoPointsAfter, tempoProblems}
+use Rattle.filler.specs.Promise.{smallBeat, allSmall}
+use Rattle.filler.proofs.Ordering.{Placed, zero-placed, placed-finite, placed-up, placed-below, placed-zero, placed-after, beat-zero}
+
+-- ---- a list of problems that is empty
+
+none-left : (xs ys : List Problem) → xs ++ ys ≡ [] → xs ≡ []
+none-left [] ys e = refl
+none-left (x ∷ xs) ys e = cc
+
+none-right : (xs ys : List Problem) → xs ++ ys ≡ [] → ys ≡ []
+none-right [] ys e = e
+none-right (x ∷ xs) ys e = cc
+
+none-when : (found : Bool) (code index value : ℕ) → when found code index value ≡ [] → found ≡ false
+none-when true code index value e = cc
+none-when false code index value e = refl
+
+-- ---- a point
+
+-- a tempo without a problem is not an infinity
+tempo-finite : (index : ℕ) (point : Listed) → tempoBits index point ≡ [] → ofBits binary32 (point .bits) ≡ inf false → ⊥
+unfolding tempoBits lt
+tempo-finite index point e i =
+    true≢false
+    (sym (ap (λ (x : Float). not (soundTempo x)) i) ∙ none-when (not (soundTempo (ofBits binary32 (point .bits)))) 8 index (point .bits) e)
+
+-- a point that may follow
+follows : (from : Float) (index : ℕ) (num : ℤ) (den bits : ℕ) → Placed (record { num = num; den = den }) → T (le from (beatFloat num den))
+    → tempoBits index (record { at = record { num = num; den = den }; bits = bits }) ≡ [] → Follows from (record { at = beatFloat num den; tempo = tempoOf bits })
+follows from index num den bits p l e =
+    record {
+      number = placed-finite (record { num = num; den = den }) p;
+      later = l;
+      tempo = finite-tempo bits (tempo-finite index (record { at = record { num = num; den = den }; bits = bits }) e);
+    }
+
+-- ---- the points
+
+rises : (index : ℕ) (before : Beat) (nums : List ℤ) (dens tempos : List ℕ) → Placed before → allBeats nums dens ≡ true
+    → tempoPointsAfter index before (listed nums dens tempos) ≡ [] → allSmall (listed nums dens tempos) ≡ true → RisingFrom (beatFloat (before .num) (before .den)) (tempoPoints nums dens tempos)
+unfolding tempoPointsAfter listed allSmall allBeats tempoPoints
+rises index before [] dens tempos p b e s = tt
+rises index before (num ∷ nums) [] tempos p b e s = tt
+rises index before (num ∷ nums) (den ∷ dens) [] p b e s = tt
+rises index before (num ∷ nums) (den ∷ dens) (bits ∷ tempos) p b e s =
+    let at : Beat = record { num = num; den = den } in
+    let point : Listed = record { at = at; bits = bits } in
+    let after = when (not (belowBeat before at)) 9 index 0 in
+    let rest = tempoPointsAfter (suc index) at (listed nums dens tempos) in
+    let above = beat-above at (and-left (isBeat at) (allBeats nums dens) b) in
+    let below = not-false (belowBeat before at) (none-when (not (belowBeat before at)) 9 index 0 (none-left after rest (none-right (tempoBits index point) (after ++ rest) e))) in
+    let q = placed-after at above (and-left (smallBeat at) (allSmall (listed nums dens tempos)) s) before p below in (
+      follows (beatFloat (before .num) (before .den)) index num den bits q
+          (up→le (beatFloat (before .num) (before .den)) (beatFloat num den) (placed-below before at p q below)) (none-left (tempoBits index point) (after ++ rest) e),
+      rises (suc index) at nums dens tempos q (and-right (isBeat at) (allBeats nums dens) b)
+          (none-right after rest (none-right (tempoBits index point) (after ++ rest) e)) (and-right (smallBeat at) (allSmall (listed nums dens tempos)) s),
+    )
+
+-- the map
+pub map-rises : (nums : List ℤ) (dens tempos : List ℕ) → allBeats nums dens ≡ true → tempoProblems (listed nums dens tempos) ≡ [] → allSmall (listed nums dens tempos) ≡ true
+    → RisingMap (tempoPoints nums dens tempos)
+unfolding tempoProblems listed allSmall allBeats tempoPoints
+map-rises [] dens tempos b e s = tt
+map-rises (num ∷ nums) [] tempos b e s = tt
+map-rises (num ∷ nums) (den ∷ dens) [] b e s = tt
+map-rises (num ∷ nums) (den ∷ dens) (bits ∷ tempos) b e s =
+    let at : Beat = record { num = num; den = den } in
+    let point : Listed = record { at = at; bits = bits } in
+    let many = when (ltb 1024 (length (point ∷ listed nums dens tempos))) 6 0 (length (point ∷ listed nums dens tempos)) in
+    let late = when (belowBeat (wholeBeat (pos 0)) at) 7 0 0 in
+    let early = when (belowBeat at (wholeBeat (pos 0))) 7 0 0 in
+    let rest = tempoPointsAfter 1 at (listed nums dens tempos) in
+    let ends = none-right late (early ++ (tempoBits 0 point ++ rest)) (none-right many (late ++ (early ++ (tempoBits 0 point ++ rest))) e) in
+    let below = none-when (belowBeat at (wholeBeat (pos 0))) 7 0 0 (none-left early (tempoBits 0 point ++ rest) ends) in
+    let left = none-right early (tempoBits 0 point ++ rest) ends in
+    let q = placed-zero at (beat-above at (and-left (isBeat at) (allBeats nums dens) b)) (and-left (smallBeat at) (allSmall (listed nums dens tempos)) s) below in (
+      follows float0 0 num den bits q
+          (subst (λ (x : Float). T (le x (beatFloat num den))) beat-zero
+          (up→le (beatFloat (pos 0) 1) (beatFloat num den) (placed-up (wholeBeat (pos 0)) at zero-placed q below))) (none-left (tempoBits 0 point) rest left),
+      rises 1 at nums dens tempos q (and-right (isBeat at) (allBeats nums dens) b) (none-right (tempoBits 0 point) rest left) (and-right (smallBeat at) (allSmall (listed nums dens tempos)) s),
+    )

@@ -1,0 +1,71 @@
+-- The carried tempo walk: a point was passed because the beat is not at or before it, and then no later beat is; so where the walk for a beat stops, that for a later one may go on.
+use mathlib.Core.Path.{_≡_, refl, sym, ap, _∙_, subst}
+use mathlib.Core.Bool.{Bool, true, false, true≢false}
+use mathlib.Core.List.{List}
+use Prim.Native.Nat.{ℕ, _+_, _≤_, _<_}
+use lib.Dec.{T}
+use lib.IntN.{ℤ, pos}
+use lib.ListN.{length, getD}
+use lib.Ieee.{Float, le}
+use Rattle.rounding.specs.Floats.{float0}
+use Rattle.beats.specs.Frames.{beatFloat}
+use Rattle.tempo.specs.Tempos.{tempoOf, tempoPoints, elapsed, secondsAtBeat}
+use Rattle.tempo.proofs.Laws.{pointsFrom, begins, ends, stops, goes}
+use Rattle.timeline.specs.Places.{Parallel}
+use Rattle.filler.specs.declared.stands.Stand.{Stand}
+use Rattle.filler.specs.Carried.{Answers, Serves, Stopped}
+use Rattle.filler.proofs.Order.{le-trans-float}
+
+abbrev pub stand : Float → Float → Float → ℕ → Stand
+stand secs from tempo next = record { secs = secs; from = from; tempo = tempo; next = next }
+
+T-of : (b : Bool) → b ≡ true → T b
+T-of b e = subst T (sym e) tt
+
+abbrev stop : Float → Float → Float → Bool
+stop beat at there = le beat at
+
+abbrev final : Float → Float → Float → Float → Float
+final beat secs from tempo = elapsed secs from beat tempo
+
+module _ (nums : List ℤ) (dens tempos : List ℕ) (even : Parallel nums dens tempos) where
+  -- ---- from one beat to another
+
+  -- the beginning serves every beat
+  pub serves-begin : (beat tempo : Float) → (0 < length nums → tempo ≡ tempoOf (getD tempos 0 0)) → Serves nums dens tempos beat (stand float0 float0 tempo 1)
+  serves-begin beat tempo is = record { own = answers beat; later = λ further h. answers further }
+    where
+      answers : (b : Float) → Answers nums dens tempos b (stand float0 float0 tempo 1)
+      answers b h = begins nums dens tempos (even .even-dens) (even .even-tempos) (stop b) (final b) h tempo (is h)
+
+  -- what serves a beat serves each that is not before it
+  pub serves-later : (last beat : Float) (w : Stand) → le last beat ≡ true → Serves nums dens tempos last w → Serves nums dens tempos beat w
+  serves-later last beat w e s =
+      let h = T-of (le last beat) e in
+      record { own = s .later beat h; later = λ further k. s .later further (le-trans-float last beat further h k) }
+
+  -- ---- the walk
+
+  module _ (beat secs from tempo : Float) (i : ℕ) (s : Serves nums dens tempos beat (stand secs from tempo i)) where
+    pub stopped-end : length nums ≤ i → Stopped nums dens tempos beat (stand secs from tempo i)
+    stopped-end h =
+        record { serves = s; seconds = λ p. ends nums dens tempos (even .even-dens) (even .even-tempos) (stop beat) (final beat) i secs from tempo _ (s .own p) h }
+
+    module _ (h : i < length nums) (num : ℤ) (reads : num ≡ getD nums i (pos 0)) (at : Float) (is : at ≡ beatFloat num (getD dens i 0)) where
+      pub stopped-here : le beat at ≡ true → Stopped nums dens tempos beat (stand secs from tempo i)
+      stopped-here t =
+          record { serves = s; seconds = λ p. stops nums dens tempos (even .even-dens) (even .even-tempos) (stop beat) (final beat) i secs from tempo _ (s .own p) h num reads at is t }
+
+      pub serves-on : le beat at ≡ false → (there next : Float) → there ≡ elapsed secs from at tempo → next ≡ tempoOf (getD tempos i 0) → Serves nums dens tempos beat (stand there at next (i + 1))
+      serves-on t there next e f =
+          record {
+            own = on beat (s .own) t;
+            later = λ further k. on further (s .later further k) (not-stopped further k (le further at) refl);
+          }
+        where
+          on : (b : Float) → Answers nums dens tempos b (stand secs from tempo i) → le b at ≡ false → Answers nums dens tempos b (stand there at next (i + 1))
+          on b answers u p = rw e (goes nums dens tempos (even .even-dens) (even .even-tempos) (stop b) (final b) i secs from tempo _ (answers p) h num reads at is next f u)
+
+          not-stopped : (further : Float) → T (le beat further) → (b : Bool) → le further at ≡ b → le further at ≡ false
+          not-stopped further k true u = absurd (subst T t (le-trans-float beat further at k (T-of (le further at) u)))
+          not-stopped further k false u = u

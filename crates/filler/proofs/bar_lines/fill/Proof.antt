@@ -1,0 +1,123 @@
+-- The loop keeps both carried states, so that each line is that of its bar asked by itself.
+use mathlib.Core.Path.{_∙_, ap}
+use Prim.Native.Nat.{_-_}
+use native.Mathlib.Omega.{arith}
+use lib.ListN.{length, getD}
+use borrow.Author.Needs.{needs}
+use denote.Ref.{now}
+use Rattle.meter.specs.Meters.{pointsOf}
+use Rattle.tempo.specs.Tempos.{tempoPoints}
+use Rattle.filler.specs.Fills.{barLines}
+use Rattle.filler.proofs.Standing.{within}
+use Rattle.filler.proofs.Filling.{Filled, filled-none, filled-all, mark-here, filled-more}
+use Rattle.filler.proofs.bar_lines.fill.Statement.{statement}
+use Rattle.filler.proofs.bar_lines.fill.Tie as tie
+
+abbrev Inv-loop : tie.InvT-loop
+Inv-loop t words nums dens tempos out₀ seg₀ beat₀ stand₀ k₀ out seg beat stand k = Filled t words nums dens tempos (length out₀) out seg beat stand k
+
+abbrev μ-loop : tie.MeasureT-loop
+μ-loop t words nums dens tempos out₀ seg₀ beat₀ stand₀ k₀ out seg beat stand k = length out₀ - k
+
+mark-requires : tie.Need-mark-requires Inv-loop μ-loop
+mark-requires c κs = search needs
+
+open-requires : tie.Need-open-requires Inv-loop μ-loop
+open-requires c κs = search needs
+
+begin-requires : tie.Need-begin-requires Inv-loop μ-loop
+begin-requires c κs = c .before .before .before .before .before .before .before .before .before .pre .0
+
+loop-holds : tie.Need-loop-holds Inv-loop μ-loop
+loop-holds c =
+    let s = c .before .before .before .before .before .before .before .before .before .before in
+    let a = s .args in
+    filled-none (a .t) (now (a .words)) (now (a .nums)) (now (a .dens)) (now (a .tempos)) (length (now (a .out))) _ _ _ _ (c .before .before .before .before .mark .ensures) (c .before .«open» .ensures) (c .begin .ensures)
+
+cast-bar : tie.Need-cast-bar Inv-loop μ-loop
+cast-bar c = omega (arith, c .before .before .before .before .before .before .before .before .before .before .before .before .pre .1, c .before .loop .inv .long, c .before .before .before .before .before .before .mark .ensures .long)
+
+mul-on-to : tie.Need-mul-on-to Inv-loop μ-loop
+mul-on-to c = search needs
+
+slice-read-on-to : tie.Need-slice-read-on-to Inv-loop μ-loop
+slice-read-on-to c = search needs
+
+on-to-requires : tie.Need-on-to-requires Inv-loop μ-loop
+on-to-requires c κs =
+    let s = c .before .before .before .before .before .before .before .before .before .before .before .before .before in
+    let a = s .args in
+    let l = c .before .before .loop in
+    (l .inv .segment, mark-here (a .t) (now (a .words)) (now (a .nums)) (now (a .dens)) (now (a .tempos)) _ (l .out) (l .seg) (l .beat) (l .stand) (l .k) (l .inv) (c .before .loop-test .taken))
+
+start-in-requires : tie.Need-start-in-requires Inv-loop μ-loop
+start-in-requires c κs =
+    let s = c .before .before .before .before .before .before .before .before .before .before .before .before .before .before in
+    let a = s .args in
+    within (now (a .words)) (a .t .«beats_per_bar») (a .t .pickup) (c .before .before .before .loop .k) (c .on-to .result) (c .on-to .ensures)
+
+float-of-requires : tie.Need-float-of-requires Inv-loop μ-loop
+float-of-requires c κs = search needs
+
+go-to-requires : tie.Need-go-to-requires Inv-loop μ-loop
+go-to-requires c κs = (c .before .before .before .before .before .before .before .before .before .before .before .before .before .before .before .before .pre .0, c .before .before .before .before .before .loop .inv .tempo)
+
+frame-at-requires : tie.Need-frame-at-requires Inv-loop μ-loop
+frame-at-requires c κs = (c .before .before .before .before .before .before .before .before .before .before .before .before .before .before .before .before .before .pre .0, c .go-to .ensures)
+
+mul-out : tie.Need-mul-out Inv-loop μ-loop
+mul-out c = omega (arith, c .before .before .before .before .before .before .before .before .before .before .before .before .before .before .before .before .before .before .pre .1, c .before .before .before .before .before .before .before .loop .inv .long, c .before .before .before .before .before .before .before .before .before .before .before .before .mark .ensures .long, c .before .before .before .before .before .before .loop-test .taken)
+
+slice-write-out : tie.Need-slice-write-out Inv-loop μ-loop
+slice-write-out c = search needs
+
+add-k : tie.Need-add-k Inv-loop μ-loop
+add-k c = omega (arith, c .before .before .before .before .before .before .before .before .before .before .before .before .before .before .before .before .before .before .pre .1, c .before .before .before .before .before .before .before .loop .inv .long, c .before .before .before .before .before .before .before .before .before .before .before .before .mark .ensures .long, c .before .before .before .before .before .before .loop-test .taken)
+
+loop-less : tie.Need-loop-less Inv-loop μ-loop
+loop-less c = omega (arith, c .before .before .before .before .before .before .before .loop .inv .long, c .before .before .before .before .before .before .loop-test .taken)
+
+loop-again : tie.Need-loop-again Inv-loop μ-loop
+loop-again c =
+    let s = c .before .before .before .before .before .before .before .before .before .before .before .before .before .before .before .before .before .before in
+    let a = s .args in
+    let l = c .before .before .before .before .before .before .before .loop in
+    filled-more (a .t) (now (a .words)) (now (a .nums)) (now (a .dens)) (now (a .tempos)) _ (l .out) (l .seg) (l .beat) (l .stand) (l .k) (l .inv) (c .before .before .before .before .before .before .loop-test .taken)
+    _ _ _ _ _ (c .before .before .before .before .on-to .ensures) (c .before .before .before .start-in .ensures) (c .before .before .float-of .ensures) (c .before .go-to .ensures) (c .frame-at .ensures)
+
+same-length : tie.Need-same-length Inv-loop μ-loop
+same-length c = search needs
+
+returns : tie.Need-returns Inv-loop μ-loop
+returns c =
+    let s = c .before .before .before .before .before .before .before .before .before .before .before .before in
+    let a = s .args in
+    let l = c .before .loop in
+    filled-all (a .t) (now (a .words)) (now (a .nums)) (now (a .dens)) (now (a .tempos)) _ (l .out) (l .seg) (l .beat) (l .stand) (l .k) (l .inv) (c .loop-test .left)
+    ∙ ap (barLines (a .t) (pointsOf (now (a .words))) (tempoPoints (now (a .nums)) (now (a .dens)) (now (a .tempos)))) (c .before .before .before .before .before .before .mark .ensures .long)
+
+pub fill-spec : {M : Type 1} → statement M
+fill-spec =
+    tie.close
+    (tie.spec
+    Inv-loop
+    μ-loop
+    mark-requires
+    open-requires
+    begin-requires
+    loop-holds
+    cast-bar
+    mul-on-to
+    slice-read-on-to
+    on-to-requires
+    start-in-requires
+    float-of-requires
+    go-to-requires
+    frame-at-requires
+    mul-out
+    slice-write-out
+    add-k
+    loop-less
+    loop-again
+    same-length
+    returns)

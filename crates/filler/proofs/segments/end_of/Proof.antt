@@ -1,0 +1,32 @@
+-- The choice is that of the definition.
+use mathlib.Core.Path.{ap, _∙_}
+use borrow.Author.Needs.{needs}
+use Rattle.beats.specs.Sums.{orMost}
+use Rattle.filler.proofs.Standing.{end-first, end-later}
+use Rattle.filler.proofs.segments.end_of.Statement.{statement}
+use Rattle.filler.proofs.segments.end_of.Tie as tie
+
+add-requires : tie.Need-add-requires
+add-requires c κs = search needs
+
+or-most-requires : tie.Need-or-most-requires
+or-most-requires c κs = search needs
+
+sub-after-bars : tie.Need-sub-after-bars
+sub-after-bars c = search needs
+
+after-bars-requires : tie.Need-after-bars-requires
+after-bars-requires c κs = search needs
+
+returns : tie.Need-returns
+returns c =
+    let s = c .before .before .before .before .before .before in
+    c .or-most .ensures ∙ ap orMost (c .before .add .ensures) ∙ end-first (s .args .s) (s .args .bar) (c .before .before .if1 .taken)
+
+returns-2 : tie.Need-returns-2
+returns-2 c =
+    let s = c .before .before .before .before .before .before in
+    c .after-bars .ensures ∙ end-later (s .args .s) (s .args .bar) (c .before .before .if1 .left)
+
+pub end-of-spec : {M : Type 1} → statement M
+end-of-spec = tie.close (tie.spec add-requires or-most-requires sub-after-bars after-bars-requires returns returns-2)

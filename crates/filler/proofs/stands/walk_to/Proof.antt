@@ -1,0 +1,97 @@
+-- The loop keeps a stand that serves the beat: a point that the walk passes, it passes for every later beat too.
+use Prim.Native.Nat.{_-_}
+use lib.IntN.{pos}
+use lib.ListN.{length, getD}
+use mir.Syntax.{w64}
+use mir.ValLaws.{toZ-ofZ}
+use denote.Ref.{now}
+use borrow.Author.Needs.{needs}
+use Rattle.timeline.specs.Places.{Parallel}
+use Rattle.filler.specs.Carried.{Serves}
+use Rattle.filler.proofs.Serving.{stand, stopped-end, stopped-here, serves-on}
+use Rattle.filler.proofs.stands.walk_to.Statement.{statement}
+use Rattle.filler.proofs.stands.walk_to.Tie as tie
+
+abbrev Inv-loop : tie.InvT-loop
+Inv-loop nums dens tempos beat secs₀ from₀ tempo₀ i₀ secs from tempo i = Serves nums dens tempos beat (stand secs from tempo i)
+
+abbrev μ-loop : tie.MeasureT-loop
+μ-loop nums dens tempos beat secs₀ from₀ tempo₀ i₀ secs from tempo i = length nums - i
+
+loop-holds : tie.Need-loop-holds Inv-loop μ-loop
+loop-holds c = c .before .before .pre .1
+
+mul-t11 : tie.Need-mul-t11 Inv-loop μ-loop
+mul-t11 c = search needs
+
+shared-slice-copy-out-t14 : tie.Need-shared-slice-copy-out-t14 Inv-loop μ-loop
+shared-slice-copy-out-t14 c = search needs
+
+mul-tempo-of : tie.Need-mul-tempo-of Inv-loop μ-loop
+mul-tempo-of c = search needs
+
+shared-slice-read-tempo-of : tie.Need-shared-slice-read-tempo-of Inv-loop μ-loop
+shared-slice-read-tempo-of c = search needs
+
+float-of-requires : tie.Need-float-of-requires Inv-loop μ-loop
+float-of-requires c κs = search needs
+
+returns : tie.Need-returns Inv-loop μ-loop
+returns c =
+    let s = c .before .before .before .before .before .before .before .before in
+    let l = c .before .before .before .before .before .loop in
+    stopped-here (now (s .args .nums)) (now (s .args .dens)) (now (s .args .tempos)) (s .pre .0) (s .args .beat) (l .secs) (l .from) (l .tempo) (l .i) (l .inv)
+    (c .before .before .before .before .loop-test .taken) _ (toZ-ofZ w64 (getD (now (s .args .nums)) (l .i) (pos 0)) (record { sfits = c .before .before .before .t14 .given })) _ (c .before .float-of .ensures) (c .if1 .taken)
+
+later-requires : tie.Need-later-requires Inv-loop μ-loop
+later-requires c κs = search needs
+
+mul-tempo-of-2 : tie.Need-mul-tempo-of-2 Inv-loop μ-loop
+mul-tempo-of-2 c = search needs
+
+shared-slice-read-tempo-of-2 : tie.Need-shared-slice-read-tempo-of-2 Inv-loop μ-loop
+shared-slice-read-tempo-of-2 c = search needs
+
+tempo-of-requires : tie.Need-tempo-of-requires Inv-loop μ-loop
+tempo-of-requires c κs = search needs
+
+add-i : tie.Need-add-i Inv-loop μ-loop
+add-i c = search needs
+
+loop-less : tie.Need-loop-less Inv-loop μ-loop
+loop-less c = search needs
+
+loop-again : tie.Need-loop-again Inv-loop μ-loop
+loop-again c =
+    let s = c .before .before .before .before .before .before .before .before .before .before .before in
+    let l = c .before .before .before .before .before .before .before .before .loop in
+    serves-on (now (s .args .nums)) (now (s .args .dens)) (now (s .args .tempos)) (s .pre .0) (s .args .beat) (l .secs) (l .from) (l .tempo) (l .i) (l .inv)
+    (c .before .before .before .before .before .before .before .loop-test .taken) _ (toZ-ofZ w64 (getD (now (s .args .nums)) (l .i) (pos 0)) (record { sfits = c .before .before .before .before .before .before .t14 .given })) _ (c .before .before .before .before .float-of .ensures) (c .before .before .before .if1 .left) _ _ (c .before .before .later .ensures) (c .tempo-of .ensures)
+
+returns-2 : tie.Need-returns-2 Inv-loop μ-loop
+returns-2 c =
+    let s = c .before .before .before .before in
+    let l = c .before .loop in
+    stopped-end (now (s .args .nums)) (now (s .args .dens)) (now (s .args .tempos)) (s .pre .0) (s .args .beat) (l .secs) (l .from) (l .tempo) (l .i) (l .inv) (c .loop-test .left)
+
+pub walk-to-spec : {M : Type 1} → statement M
+walk-to-spec =
+    tie.close
+    (tie.spec
+    Inv-loop
+    μ-loop
+    loop-holds
+    mul-t11
+    shared-slice-copy-out-t14
+    mul-tempo-of
+    shared-slice-read-tempo-of
+    float-of-requires
+    returns
+    later-requires
+    mul-tempo-of-2
+    shared-slice-read-tempo-of-2
+    tempo-of-requires
+    add-i
+    loop-less
+    loop-again
+    returns-2)

@@ -1,0 +1,53 @@
+-- 12 first, then the worst of what the tests found.
+use mathlib.Core.Path.{sym, ap, _∙_}
+use borrow.Author.Tests.{not-true, not-false}
+use borrow.Author.Needs.{needs}
+use Rattle.timeline.specs.Tests.{tested, worse, testOf, mapsTest}
+use Rattle.filler.proofs.test.Statement.{statement}
+use Rattle.filler.proofs.test.Tie as tie
+
+is-sound-requires : tie.Need-is-sound-requires
+is-sound-requires c κs = search needs
+
+returns : tie.Need-returns
+unfolding testOf
+returns c = rw (sym (c .before .is-sound .ensures) ∙ not-true _ (c .if1 .taken))
+
+words-test-requires : tie.Need-words-test-requires
+words-test-requires c κs = search needs
+
+test-requires : tie.Need-test-requires
+test-requires c κs = search needs
+
+worse-requires : tie.Need-worse-requires
+worse-requires c κs = search needs
+
+lines-test-requires : tie.Need-lines-test-requires
+lines-test-requires c κs = search needs
+
+worse-requires-2 : tie.Need-worse-requires-2
+worse-requires-2 c κs = search needs
+
+found-requires : tie.Need-found-requires
+found-requires c κs = search needs
+
+returns-2 : tie.Need-returns-2
+unfolding testOf mapsTest
+returns-2 c =
+    let maps = c .before .before .before .worse .ensures ∙ (λ i. worse (c .before .before .before .before .before .words-test .ensures i) (c .before .before .before .before .test .ensures i)) in
+    rw (sym (c .before .before .before .before .before .before .before .is-sound .ensures) ∙ not-false _ (c .before .before .before .before .before .before .if1 .left))
+    (c .found .ensures ∙ ap tested (c .before .worse2 .ensures ∙ (λ i. worse (c .before .before .lines-test .ensures i) (maps i))))
+
+pub test-spec : {M : Type 1} → statement M
+test-spec =
+    tie.close
+    (tie.spec
+    is-sound-requires
+    returns
+    words-test-requires
+    test-requires
+    worse-requires
+    lines-test-requires
+    worse-requires-2
+    found-requires
+    returns-2)

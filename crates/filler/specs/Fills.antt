@@ -1,0 +1,42 @@
+-- The line filler, each bar asked by itself: the whole lent list, entry k with `frame_at_bar(k)`.
+use mathlib.Core.Bool.{cond}
+use mathlib.Core.List.{List, [], _∷_}
+use Prim.Native.Nat.{ℕ, zero, suc}
+use lib.Dec.{leb}
+use lib.IntN.{ℤ}
+use lib.ListN.{length}
+use Rattle.numbers.specs.Answers.{Answer, accepted, refused}
+use Rattle.meter.specs.declared.MeterPoint.{MeterPoint}
+use Rattle.meter.specs.Meters.{pointsOf}
+use Rattle.tempo.specs.declared.MapTest.{MapTest}
+use Rattle.tempo.specs.declared.MapTest.the-variants.{Sound, TooLong}
+use Rattle.tempo.specs.Tempos.{TempoPoint, tempoPoints}
+use Rattle.transport.specs.declared.Transport.{Transport}
+use Rattle.timeline.specs.Places.{frameAtBar}
+use Rattle.timeline.specs.Tests.{worse, mapsTest, ifTested}
+
+-- n entries, the first with what is asked of bar k
+unfoldable pub entries : (ℕ → ℕ) → ℕ → ℕ → List ℕ
+entries ask k zero = []
+entries ask k (suc n) = ask k ∷ entries ask (suc k) n
+
+-- the first n bar lines
+abbrev pub barLines : Transport → List MeterPoint → List TempoPoint → ℕ → List ℕ
+barLines t map points n = entries (frameAtBar t map points) 0 n
+
+-- 4 over 65,536 bar lines
+abbrev pub linesTest : ℕ → MapTest
+linesTest n = cond (leb n 65536) Sound TooLong
+
+-- 12 of the transport, then 3, 4 and 1 of the lists, the lent one among them
+abbrev pub fillAnswer : Transport → List ℕ → List ℤ → List ℕ → List ℕ → List ℕ → Answer Unit
+fillAnswer t words nums dens tempos out = ifTested t (worse (linesTest (length out)) (mapsTest words nums dens tempos)) (accepted tt)
+
+-- the new words of a call that is accepted, and the old ones of a call that is refused
+abbrev pub newOr : Answer Unit → List ℕ → List ℕ → List ℕ
+newOr (accepted u) new old = new
+newOr (refused number facts) new old = old
+
+abbrev pub fillAfter : Transport → List ℕ → List ℤ → List ℕ → List ℕ → List ℕ → List ℕ
+fillAfter t words nums dens tempos out =
+    newOr (fillAnswer t words nums dens tempos out) (barLines t (pointsOf words) (tempoPoints nums dens tempos) (length out)) out

@@ -1,0 +1,5 @@
+pub mod Fills
+pub mod Readings
+pub mod Numbers
+pub mod Carried
+pub mod Promise

@@ -1,0 +1,90 @@
+-- What an answer says of the bytes: accepted, they are a score file, whose counts have limits and whose points are the fronts of the lent lists; refused, they are none.
+use mathlib.Core.Path.{_≡_, refl, sym, ap, _∙_}
+use mathlib.Core.Bool.{Bool, true, false}
+use mathlib.Core.List.{List, []}
+use Prim.Native.Nat.{ℕ, _*_, _≤_, _<_}
+use native.Mathlib.Omega.{arith}
+use lib.IntN.{ℤ}
+use lib.ListN.{length, take, drop}
+use lib.Seq.{take-at}
+use Rattle.numbers.specs.Answers.{Answer, accepted, refused}
+use Rattle.score.specs.declared.Score.{Score}
+use Rattle.score.specs.declared.ScoreAnswer.the-variants.{Read, BadFile}
+use Rattle.score.specs.Bytes.{wordAt, numberAt}
+use Rattle.score.specs.Format.{tempoOffset, tempoCount, meterCount, isScore, scoreOf, meterWords, tempoNums, tempoDens, tempoBits}
+use Rattle.score.specs.Answers.{scoreAnswer, after}
+use Rattle.score.specs.Readings.{readScore}
+use Rattle.score.proofs.Places.{each-length}
+use Rattle.score.proofs.Whole.{accepted-is, refused-is, score-laid}
+
+-- both at once never
+never : {x y : Bool} (s : Score) → accepted s ≡ refused 13 [] → x ≡ y
+never s e = cc
+
+value : Score → Answer Score → Score
+value s (accepted a) = a
+value s (refused n facts) = s
+
+module _ (b : List ℕ) where
+  pub bad-file : readScore BadFile ≡ scoreAnswer b → isScore b ≡ false
+  bad-file e = go (isScore b) refl
+    where
+      go : (x : Bool) → isScore b ≡ x → isScore b ≡ false
+      go true t = never (scoreOf b) (accepted-is b t (scoreOf b) refl ∙ sym e)
+      go false t = t
+
+  pub good-file : (s : Score) → readScore (Read s) ≡ scoreAnswer b → isScore b ≡ true
+  good-file s e = go (isScore b) refl
+    where
+      go : (x : Bool) → isScore b ≡ x → isScore b ≡ true
+      go true t = t
+      go false t = never s (e ∙ sym (refused-is b t))
+
+  pub says : (s : Score) → readScore (Read s) ≡ scoreAnswer b → s ≡ scoreOf b
+  unfolding value
+  says s e = ap (value s) (e ∙ sym (accepted-is b (good-file s e) (scoreOf b) refl))
+
+  module _ (good : isScore b ≡ true) where
+    -- ---- the limits
+
+    pub few-meters : scoreOf b .meters ≤ 256
+    unfolding scoreOf
+    few-meters = score-laid b good .few
+
+    pub few-tempos : scoreOf b .tempos ≤ 1024
+    unfolding scoreOf
+    few-tempos = score-laid b good .points
+
+    -- a header of 48 bytes, 256 meter points of 12 and 1,024 tempo points of 16
+    pub longest : length b ≤ 19504
+    longest = let l = score-laid b good in omega (arith, l)
+
+    -- ---- the fronts of the lists
+
+    front : {A : Type 0} (new old : List A) (n : ℕ) → length new ≡ n → take n (after b new old) ≡ new
+    unfolding after
+    front new old n e = simp good (take-at new (drop (length new) old) n e)
+
+    pub meter-front : (old : List ℕ) → take (3 * scoreOf b .meters) (after b (meterWords b) old) ≡ meterWords b
+    unfolding scoreOf meterWords
+    meter-front old = front (meterWords b) old (3 * meterCount b) (each-length (wordAt b) 48 4 (3 * meterCount b))
+
+    pub nums-front : (old : List ℤ) → take (scoreOf b .tempos) (after b (tempoNums b) old) ≡ tempoNums b
+    unfolding scoreOf tempoNums
+    nums-front old = front (tempoNums b) old (tempoCount b) (each-length (numberAt b) (tempoOffset b) 16 (tempoCount b))
+
+    pub dens-front : (old : List ℕ) → take (scoreOf b .tempos) (after b (tempoDens b) old) ≡ tempoDens b
+    unfolding scoreOf tempoDens
+    dens-front old = front (tempoDens b) old (tempoCount b) (each-length (wordAt b) _ 16 (tempoCount b))
+
+    pub bits-front : (old : List ℕ) → take (scoreOf b .tempos) (after b (tempoBits b) old) ≡ tempoBits b
+    unfolding scoreOf tempoBits
+    bits-front old = front (tempoBits b) old (tempoCount b) (each-length (wordAt b) _ 16 (tempoCount b))
+
+  -- longer bytes are none
+  pub too-long : 19504 < length b → isScore b ≡ false
+  too-long h = go (isScore b) refl
+    where
+      go : (x : Bool) → isScore b ≡ x → isScore b ≡ false
+      go true t = let z : ⊥ = omega (arith, longest t) in absurd z
+      go false t = t

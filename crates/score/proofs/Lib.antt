@@ -1,0 +1,6 @@
+pub mod Writing
+pub mod Places
+pub mod Whole
+pub mod Accepted
+pub mod Readings
+pub mod Laws

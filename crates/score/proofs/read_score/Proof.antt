@@ -1,0 +1,89 @@
+-- Nothing is written before the test has passed; behind it the counts are those of the header, and each copy fills its list.
+use mathlib.Core.Path.{_≡_, refl, sym, _∙_}
+use mathlib.Core.Bool.{true}
+use native.Mathlib.Omega.{arith}
+use borrow.Author.Needs.{needs}
+use borrow.Author.Tests.{not-true, not-false}
+use Rattle.score.specs.Format.{isScore}
+use Rattle.score.proofs.Whole.{Known, score-laid, known, refused-is, kept, accepted-is, meter-filled, nums-filled, dens-filled, bits-filled}
+use Rattle.score.proofs.read_score.Statement.{statement}
+use Rattle.score.proofs.read_score.Tie as tie
+
+-- behind the test the bytes are a score file
+good : (c : tie.Else1) → isScore (c .before .before .before .args .bytes .now) ≡ true
+good c = sym (c .before .is-score .ensures) ∙ not-false _ (c .if1 .left)
+
+-- and the header's numbers are known
+numbers : (c : tie.After-word-at)
+    → Known (c .before .before .before .before .before .args .bytes .now) (c .before .header .result .meters) (c .before .header .result .tempos) (c .word-at .result)
+numbers c = known _ _ _ (good (c .before .before)) (c .before .header .ensures) (c .word-at .ensures)
+
+is-score-requires : tie.Need-is-score-requires
+is-score-requires c κs = search needs
+
+returns : tie.Need-returns
+returns c =
+    let bad = sym (c .before .is-score .ensures) ∙ not-true _ (c .if1 .taken) in
+    (refused-is _ bad, kept _ bad _ _, kept _ bad _ _, kept _ bad _ _, kept _ bad _ _)
+
+header-requires : tie.Need-header-requires
+header-requires c κs = let l = score-laid _ (good c) in omega (arith, l)
+
+word-at-requires : tie.Need-word-at-requires
+word-at-requires c κs = let l = score-laid _ (good (c .before)) in omega (arith, l)
+
+cast-place : tie.Need-cast-place
+cast-place c = search needs
+
+mul-copy-words : tie.Need-mul-copy-words
+mul-copy-words c = let k = numbers c in record { fits = omega arith }
+
+copy-words-requires : tie.Need-copy-words-requires
+copy-words-requires c κs = let k = numbers (c .before) in (omega arith, omega arith, omega arith, omega arith)
+
+copy-numbers-requires : tie.Need-copy-numbers-requires
+copy-numbers-requires c κs = let k = numbers (c .before .before .before) in (omega arith, omega arith)
+
+add-copy-words : tie.Need-add-copy-words
+add-copy-words c = search needs
+
+copy-words-requires-2 : tie.Need-copy-words-requires-2
+copy-words-requires-2 c κs = let k = numbers (c .before .before .before .before .before) in (omega arith, omega arith, omega arith, omega arith)
+
+add-copy-words-2 : tie.Need-add-copy-words-2
+add-copy-words-2 c = search needs
+
+copy-words-requires-3 : tie.Need-copy-words-requires-3
+copy-words-requires-3 c κs = let k = numbers (c .before .before .before .before .before .before .before) in (omega arith, omega arith, omega arith, omega arith)
+
+returns-2 : tie.Need-returns-2
+returns-2 c =
+    let nums = c .before .before .before .before in
+    let word = nums .before .before .before .before in
+    let file = word .before .before in
+    let is = good file in
+    let k = numbers word in (
+      accepted-is _ is _ (word .before .header .ensures),
+      meter-filled _ is _ (k .m-is) refl (nums .before .before .copy-words .ensures),
+      nums-filled _ is (k .at-is) (k .t-is) _ (nums .copy-numbers .ensures),
+      dens-filled _ is (k .at-is) (k .t-is) _ (c .before .before .copy-words2 .ensures),
+      bits-filled _ is (k .at-is) (k .t-is) _ (c .copy-words3 .ensures),
+    )
+
+pub read-score-spec : {M : Type 1} → statement M
+read-score-spec =
+    tie.close
+    (tie.spec
+    is-score-requires
+    returns
+    header-requires
+    word-at-requires
+    cast-place
+    mul-copy-words
+    copy-words-requires
+    copy-numbers-requires
+    add-copy-words
+    copy-words-requires-2
+    add-copy-words-2
+    copy-words-requires-3
+    returns-2)

@@ -1,0 +1,15 @@
+-- Reading a score file: refused by 13 alone, with nothing changed; else what it says, its points at the front of the lent lists.
+use mathlib.Core.Bool.{cond}
+use mathlib.Core.List.{List, [], _++_}
+use Prim.Native.Nat.{ℕ}
+use lib.ListN.{length, drop}
+use Rattle.numbers.specs.Answers.{Answer, accepted, refused}
+use Rattle.score.specs.declared.Score.{Score}
+use Rattle.score.specs.Format.{isScore, scoreOf}
+
+unfoldable pub scoreAnswer : List ℕ → Answer Score
+scoreAnswer bytes = cond (isScore bytes) (accepted (scoreOf bytes)) (refused 13 [])
+
+-- a lent list that was `old`, after `new` was read into it: later elements stay
+unfoldable pub after : {A : Type 0} → List ℕ → List A → List A → List A
+after bytes new old = cond (isScore bytes) (new ++ drop (length new) old) old

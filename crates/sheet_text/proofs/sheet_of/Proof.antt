@@ -1,0 +1,61 @@
+-- Other bytes are refused; a score file's sheet is that of what was read.
+use mathlib.Core.Path.{_≡_, sym, ap, _∙_}
+use native.Mathlib.Omega.{arith}
+use borrow.Author.Needs.{needs}
+use Rattle.score.specs.declared.ScoreAnswer.{ScoreAnswer}
+use Rattle.score.specs.Readings.{readScore}
+use Rattle.text.proofs.Laws.{retext}
+use Rattle.sheet_text.proofs.Files.{counted, refusal-is, meters-few, tempos-few, sheet-is}
+use Rattle.sheet_text.proofs.sheet_of.Statement.{statement}
+use Rattle.sheet_text.proofs.sheet_of.Tie as tie
+
+read-score-requires : tie.Need-read-score-requires
+read-score-requires c κs = search needs
+
+enum-told : tie.Need-enum-told
+enum-told c = search needs
+
+slice-aggregate-bytes : tie.Need-slice-aggregate-bytes
+slice-aggregate-bytes c = search needs
+
+bytes-requires : tie.Need-bytes-requires
+bytes-requires c κs = search needs
+
+enum-known-score : tie.Need-enum-known-score
+enum-known-score c = search needs
+
+sheet-requires : tie.Need-sheet-requires
+sheet-requires c κs =
+    let bound = c .before .before .before .before .before .before in
+    let read = bound .before .before in
+    let e = sym (ap readScore (bound .score .given .1)) ∙ read .read-score .ensures .0 in
+    (omega arith, meters-few _ _ e, tempos-few _ _ e)
+
+returns : tie.Need-returns
+returns c =
+    let told = c .before .before .before in
+    let read = told .before .before in
+    let e = sym (ap readScore (told .enum-told .given .1)) ∙ read .read-score .ensures .0 in
+    let put = retext (refusal-is _ e) (c .bytes .ensures) in
+    (put, counted put (omega (arith, put .next-is)))
+
+returns-2 : tie.Need-returns-2
+returns-2 c =
+    let bound = c .before .before .before .before .before .before .before in
+    let read = bound .before .before .read-score in
+    let e = sym (ap readScore (bound .score .given .1)) ∙ read .ensures .0 in
+    let put = retext (sheet-is _ _ e _ _ _ _ (read .ensures .1) (read .ensures .2) (read .ensures .3) (read .ensures .4)) (c .sheet .ensures .0) in
+    (put, counted put (omega (arith, c .sheet .ensures .1)))
+
+pub sheet-of-spec : {M : Type 1} → statement M
+sheet-of-spec =
+    tie.close
+    (tie.spec
+    read-score-requires
+    enum-told
+    slice-aggregate-bytes
+    bytes-requires
+    enum-known-score
+    sheet-requires
+    returns
+    returns-2)

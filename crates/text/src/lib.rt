@@ -1,0 +1,2 @@
+// Numbers and beats as text in lent bytes.
+pub mod put;
