@@ -1,7 +1,7 @@
 // The rules of the score file, a test each, and its header's values.
-use beats::Beat;
 use crate::Score;
 use crate::words;
+use beats::Beat;
 use meter::Pickup;
 ghost use mathlib.Core.Path.{_≡_};
 ghost use Prim.Native.Nat.{_+_, _*_, _≤_};

@@ -17,13 +17,7 @@ fn clock(score: Score) -> Transport
 {
     let pickup = score.pickup;
     let bpm = rounding::f32_of(score.bpm);
-    change::fresh(
-        score.rate,
-        bpm,
-        score.beats,
-        0xffff_ffff_ffff_ffff,
-        pickup,
-    )
+    change::fresh(score.rate, bpm, score.beats, 0xffff_ffff_ffff_ffff, pickup)
 }
 
 // Writes the sheet by the first `meters` points and the first `tempos`.

@@ -30,7 +30,7 @@ returns : tie.Need-returns Inv-loop μ-loop
 returns c =
     let l = c .before .before .before .before in
     sym (bad-step _ (l .loop .p) (l .loop .left) (c .before .before .before .loop-test .taken)
-      (ap isBeat (sym (c .before .before .beat-at .ensures)) ∙ sym (c .before .is-beat .ensures) ∙ not-true _ (c .if1 .taken))) ∙ l .loop .inv .1
+    (ap isBeat (sym (c .before .before .beat-at .ensures)) ∙ sym (c .before .is-beat .ensures) ∙ not-true _ (c .if1 .taken))) ∙ l .loop .inv .1
 
 add-p : tie.Need-add-p Inv-loop μ-loop
 add-p c = omega arith
@@ -46,7 +46,7 @@ loop-again c =
     let l = c .before .before .before .before in (
       omega arith,
       sym (good-step _ (l .loop .p) (l .loop .left) (c .before .before .before .loop-test .taken)
-        (ap isBeat (sym (c .before .before .beat-at .ensures)) ∙ sym (c .before .is-beat .ensures) ∙ not-false _ (c .if1 .left))) ∙ l .loop .inv .1,
+          (ap isBeat (sym (c .before .before .beat-at .ensures)) ∙ sym (c .before .is-beat .ensures) ∙ not-false _ (c .if1 .left))) ∙ l .loop .inv .1,
     )
 
 returns-2 : tie.Need-returns-2 Inv-loop μ-loop

@@ -42,14 +42,26 @@ add-if6-2 c = search needs
 returns-6 : tie.Need-returns-6
 returns-6 c =
     let t = c .before .before .before in
-    simp (eq-eqb _ _ (t .before .before .if1 .left), le-leb _ _ (t .before .if2 .left), eq-eqb _ _ (t .if3 .left), le-leb _ _ (c .before .before .if4 .left),
-      eq-eqb _ _ (c .before .if5 .left), ne-eqb _ _ (c .if6 .taken))
+    simp (
+      eq-eqb _ _ (t .before .before .if1 .left),
+      le-leb _ _ (t .before .if2 .left),
+      eq-eqb _ _ (t .if3 .left),
+      le-leb _ _ (c .before .before .if4 .left),
+      eq-eqb _ _ (c .before .if5 .left),
+      ne-eqb _ _ (c .if6 .taken),
+    )
 
 returns-7 : tie.Need-returns-7
 returns-7 c =
     let t = c .before .before .before in
-    simp (eq-eqb _ _ (t .before .before .if1 .left), le-leb _ _ (t .before .if2 .left), eq-eqb _ _ (t .if3 .left), le-leb _ _ (c .before .before .if4 .left),
-      eq-eqb _ _ (c .before .if5 .left), eq-eqb _ _ (c .if6 .left))
+    simp (
+      eq-eqb _ _ (t .before .before .if1 .left),
+      le-leb _ _ (t .before .if2 .left),
+      eq-eqb _ _ (t .if3 .left),
+      le-leb _ _ (c .before .before .if4 .left),
+      eq-eqb _ _ (c .before .if5 .left),
+      eq-eqb _ _ (c .if6 .left),
+    )
 
 pub laid-out-by-spec : {M : Type 1} → statement M
 laid-out-by-spec =

@@ -42,7 +42,7 @@ returns c =
     let start = line .before .before .before .before in
     let a = start .before .before .before .before .before .args in
     let is = line-is (a .t) (pointsOf (a .words .now)) (tempoPoints (a .nums .now) (a .dens .now) (a .tempos .now))
-      (line .before .label .ensures) (start .start .ensures) (line .before .before .before .frame-at-bar .ensures) in
+    (line .before .label .ensures) (start .start .ensures) (line .before .before .before .frame-at-bar .ensures) in
     (retext is (line .line .ensures), omega (arith, short (line .before), line .line .ensures .next-is))
 
 pub bar-line-spec : {M : Type 1} → statement M
