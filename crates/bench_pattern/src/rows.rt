@@ -61,7 +61,7 @@ fn call_joins(row: Row, words: &[u32], q: u32, lent: &mut [u32]) -> PatternAnswe
 // A call that changes each note, or makes them.
 fn call_changes(row: Row, words: &[u32], notes: u32, q: u32, lent: &mut [u32]) -> PatternAnswer {
     match row {
-        Row::Stretch => pattern::stretch(Pattern { bars: 510 }, words, q % 7 * 3 + 3, 3, lent),
+        Row::Stretch => pattern::stretch(bars(), words, q % 7 * 3 + 3, 3, lent),
         Row::Rotate => pattern::rotate(bars(), words, q as i64, 16, lent),
         Row::Reverse => pattern::reverse(bars(), words, q % 2 + 16, lent),
         Row::Quantize => pattern::quantize(bars(), words, q % 16 + 1, lent),

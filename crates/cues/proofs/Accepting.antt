@@ -15,10 +15,10 @@ use Rattle.transport.specs.Advances.{advanced}
 use Rattle.lines.specs.Lines.{linesAnswer}
 use Rattle.cues.specs.Sounding.{cues, later}
 use Rattle.cues.specs.CueCall.{cueTest, movedBy, handedBy}
-use Rattle.cues.specs.Promise.{Block, isAccepted, answerTo, next, allAccepted, framesIn, allRoom, Accepting}
+use Rattle.cues.specs.Promise.{Block, isAccepted, answerTo, next, allAccepted, framesIn, allRoom, Accepting, Promised}
 use Rattle.cues.proofs.Sounding.{cues-on, length-later}
 use Rattle.cues.proofs.Answering.{past-lines}
-use Rattle.cues.proofs.Blocks.{Says, says, rest-sound, rest-reach}
+use Rattle.cues.proofs.Blocks.{says, rest-sound, rest-reach, by-blocks}
 
 module _ (lines : List ℕ) (fine : linesAnswer lines ≡ accepted tt) where
   one-accepted : (t : Transport) (block : Block) → sound t ≡ true → t .position + block .frames ≤ 2 ^ 64 - 1 → length (cues lines t (block .frames)) ≤ length (block .out) / 2
@@ -53,3 +53,6 @@ module _ (lines : List ℕ) (fine : linesAnswer lines ≡ accepted tt) where
 
 pub accepting : Accepting
 accepting lines t blocks is fine h room = all-accepted lines fine (length (cues lines t (framesIn blocks))) t blocks is h (omega arith) room
+
+pub promised : Promised
+promised = record { by-blocks = by-blocks; accepting = accepting }

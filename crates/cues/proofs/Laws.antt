@@ -1,9 +1,8 @@
 -- What crates above may use of the cue call.
 
--- demand 3: a run may be cut into blocks
+-- demand 3: a run may be cut into blocks; and where there is room no call of a block is refused
 pub use Rattle.cues.proofs.Blocks.{by-blocks}
--- where there is room no call of a block is refused
-pub use Rattle.cues.proofs.Accepting.{accepting}
+pub use Rattle.cues.proofs.Accepting.{accepting, promised}
 -- the cues of a + b frames are those of a frames, and then those of b frames from where the first end
 pub use Rattle.cues.proofs.Sounding.{sounds-playing, sounds-none, sounds-on, cues-on, silent}
 -- no two cases of the answer read alike

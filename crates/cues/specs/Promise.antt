@@ -75,7 +75,7 @@ module _ (lines : List ℕ) where
   someFinishes t [] = false
   someFinishes t (block ∷ rest) = saidTo t block .finished || someFinishes (next t block) rest
 
--- ---- the promise
+-- ---- the whole, and its blocks
 
 -- the whole's cues are the blocks' joined, the end transport is the same, and the whole reports a wrap, or a finish, just when some block does
 pub record SameAsBlocks (lines : List ℕ) (t : Transport) (whole : Block) (blocks : List Block) : Type 0 where
@@ -113,3 +113,9 @@ Accepting = (lines : List ℕ) (t : Transport) (blocks : List Block)
     → t .position + framesIn blocks ≤ 2 ^ 64 - 1
     → allRoom (length (cues lines t (framesIn blocks))) blocks ≡ true
     → allAccepted lines t blocks ≡ true
+
+-- ---- the promise
+
+pub record Promised : Type 0 where
+  pub by-blocks : ByBlocks
+  pub accepting : Accepting

@@ -1,4 +1,5 @@
 pub mod Rows
 pub mod Files
 pub mod Cutting
+pub mod Example
 pub mod Laws

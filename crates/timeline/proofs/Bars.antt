@@ -1,5 +1,6 @@
 -- The position in bars from its steps, and the bar of the next line.
-use mathlib.Core.Path.{_≡_}
+use mathlib.Core.Path.{_≡_, sym, ap, _∙_}
+use mathlib.Core.Bool.{Bool}
 use mathlib.Core.List.{List}
 use Prim.Native.Nat.{ℕ, max, _+_, _*_, _/_, _≤_, _<_}
 use native.Mathlib.Nat.{div-one, div-add-mod'}
@@ -8,11 +9,17 @@ use lib.IntN.{pos}
 use lib.Ieee.{Float, binary64, ofInt, add}
 use Rattle.rounding.specs.Floats.{clamp, float0, float1}
 use Rattle.beats.specs.declared.Beat.{Beat}
+use Rattle.beats.specs.Beats.{wholeBeat}
+use Rattle.beats.specs.Sums.{belowBeat}
 use Rattle.meter.specs.declared.MeterPoint.{MeterPoint}
 use Rattle.meter.specs.Meters.{barLen}
 use Rattle.meter.specs.Starts.{startOf}
 use Rattle.transport.specs.declared.Transport.{Transport}
 use Rattle.timeline.specs.Places.{currentBar, within, barsAt, gridBar}
+
+-- whether a bar lasts any time, as the code finds it
+pub lasts : (len zero : Beat) (answer found : Bool) → zero ≡ wholeBeat (pos 0) → answer ≡ belowBeat zero len → answer ≡ found → belowBeat (wholeBeat (pos 0)) len ≡ found
+lasts len zero answer found z e is = ap (λ (x : Beat). belowBeat x len) (sym z) ∙ sym e ∙ is
 
 -- each step by what it is
 pub record Steps (t : Transport) (map : List MeterPoint) (beat : Beat) (bar : ℕ) (start len : Beat) (part kept : Float) : Type 0 where

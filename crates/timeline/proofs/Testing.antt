@@ -13,7 +13,7 @@ use Rattle.tempo.specs.Answers.{mapTest, ifSound}
 use Rattle.tempo.proofs.Laws as tempo
 use Rattle.transport.specs.declared.Transport.{Transport}
 use Rattle.transport.specs.Transports.{sound}
-use Rattle.transport.specs.Changes.{Handed, handed}
+use Rattle.transport.specs.Changes.{handed}
 use Rattle.transport.specs.Readings.{readChanged, refusedBy}
 use Rattle.timeline.specs.declared.tests.Refusal.{Refusal}
 use Rattle.timeline.specs.declared.tests.Refusal.the-variants as R

@@ -1,5 +1,5 @@
 -- Where beats and bars lie on a transport's frames: binary64 operations, each rounded once, in the order of document 01.
-use mathlib.Core.Bool.{Bool, cond}
+use mathlib.Core.Bool.{cond}
 use mathlib.Core.Path.{_≡_}
 use mathlib.Core.List.{List, [], _∷_}
 use Prim.Native.Nat.{ℕ, max, _+_, _-_, _*_, _/_}

@@ -1,6 +1,6 @@
 -- What is tested before a walk: 12 of the transport, then 3, 4 and 1 of the lists, each number for all lists before the next.
 use mathlib.Core.Bool.{cond}
-use mathlib.Core.List.{List, []}
+use mathlib.Core.List.{List}
 use Prim.Native.Nat.{ℕ, _*_, _%_}
 use lib.Dec.{leb, eqb}
 use lib.IntN.{ℤ}

@@ -8,8 +8,6 @@ use meter::count;
 use tempo::walks;
 use transport::Transport;
 ghost use mathlib.Core.Path.{_≡_};
-ghost use Prim.Native.Nat.{_-_};
-ghost use lib.ListN.{length};
 ghost use Rattle.meter.specs.Meters.{pointsOf};
 ghost use Rattle.tempo.specs.Tempos.{tempoPoints};
 ghost use Rattle.timeline.specs.Places.{Parallel, ownTempo, secondsOf, beatsOf, frameAtBeat, beatAtFrame, frameAtBar, positionBeats, nextBeat, nearestBeat, currentBar, within, positionBars, gridBar, nextGridBar};

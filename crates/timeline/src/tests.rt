@@ -1,6 +1,5 @@
 // What is tested before a walk: 12 of the transport, then 3, 4 and 1 of the lists, each number for
 // all lists before the next.
-use meter::Pickup;
 use tempo::MapTest;
 use transport::Changed;
 use transport::Report;

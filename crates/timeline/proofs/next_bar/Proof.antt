@@ -24,34 +24,45 @@ enum-told c = search needs
 
 next-grid-bar-requires : tie.Need-next-grid-bar-requires
 next-grid-bar-requires c κs =
-    let s = c .before .before .before .before .before .before .args in maps-parallel (now (s .nums)) (now (s .dens)) (now (s .tempos)) (s .t) (now (s .words)) _ (c .before .before .maps-test .ensures) (c .enum-told .given .1)
+    let m = c .before .before in
+    let s = m .before .before .before .before .args in
+    maps-parallel (now (s .nums)) (now (s .dens)) (now (s .tempos)) (s .t) (now (s .words)) _ (m .maps-test .ensures) (c .enum-told .given .1)
 
 returns : tie.Need-returns
 returns c =
-    let s = c .before .before .before .before .before .before .before .before .args in
+    let m = c .before .before .before .before in
+    let s = m .before .before .before .before .args in
     let map = pointsOf (now (s .words)) in
     let points = tempoPoints (now (s .nums)) (now (s .dens)) (now (s .tempos)) in
-    beyond _ (nextGridBar (s .t) map points (s .every)) (c .before .next-grid-bar .ensures) _ (c .if1 .taken) ∙ by-test (s .t) (mapsTest (now (s .words)) (now (s .nums)) (now (s .dens)) (now (s .tempos))) _ _ Passed (c .before .before .before .before .maps-test .ensures) (c .before .before .enum-told .given .1)
+    let bar = nextGridBar (s .t) map points (s .every) in
+    beyond _ bar (c .before .next-grid-bar .ensures) _ (c .if1 .taken)
+    ∙ by-test (s .t) (mapsTest (now (s .words)) (now (s .nums)) (now (s .dens)) (now (s .tempos))) _ _ Passed (m .maps-test .ensures) (c .before .before .enum-told .given .1)
 
 cast-frame-at-bar : tie.Need-cast-frame-at-bar
 cast-frame-at-bar c = search needs
 
 frame-at-bar-requires : tie.Need-frame-at-bar-requires
 frame-at-bar-requires c κs =
-    let s = c .before .before .before .before .before .before .before .before .args in maps-parallel (now (s .nums)) (now (s .dens)) (now (s .tempos)) (s .t) (now (s .words)) _ (c .before .before .before .before .maps-test .ensures) (c .before .before .enum-told .given .1)
+    let m = c .before .before .before .before in
+    let s = m .before .before .before .before .args in
+    maps-parallel (now (s .nums)) (now (s .dens)) (now (s .tempos)) (s .t) (now (s .words)) _ (m .maps-test .ensures) (c .before .before .enum-told .given .1)
 
 returns-2 : tie.Need-returns-2
 returns-2 c =
-    let s = c .before .before .before .before .before .before .before .args in by-test (s .t) (mapsTest (now (s .words)) (now (s .nums)) (now (s .dens)) (now (s .tempos))) _ _ (Refused _) (c .before .before .before .maps-test .ensures) (c .before .why .given .1)
+    let m = c .before .before .before in
+    let s = m .before .before .before .before .args in
+    by-test (s .t) (mapsTest (now (s .words)) (now (s .nums)) (now (s .dens)) (now (s .tempos))) _ _ (Refused _) (m .maps-test .ensures) (c .before .why .given .1)
 
 returns-3 : tie.Need-returns-3
 returns-3 c =
-    let s = c .before .before .before .before .before .before .before .before .before .args in
+    let m = c .before .before .before .before .before in
+    let s = m .before .before .before .before .args in
     let map = pointsOf (now (s .words)) in
     let points = tempoPoints (now (s .nums)) (now (s .dens)) (now (s .tempos)) in
+    let bar = nextGridBar (s .t) map points (s .every) in
     rw (c .frame-at-bar .ensures)
-    (within-reach _ (nextGridBar (s .t) map points (s .every)) (c .before .before .next-grid-bar .ensures) (λ (n : ℕ). accepted (frameAtBar (s .t) map points n)) (c .before .if1 .left)
-    ∙ by-test (s .t) (mapsTest (now (s .words)) (now (s .nums)) (now (s .dens)) (now (s .tempos))) _ _ Passed (c .before .before .before .before .before .maps-test .ensures) (c .before .before .before .enum-told .given .1))
+    (within-reach _ bar (c .before .before .next-grid-bar .ensures) (λ (n : ℕ). accepted (frameAtBar (s .t) map points n)) (c .before .if1 .left)
+    ∙ by-test (s .t) (mapsTest (now (s .words)) (now (s .nums)) (now (s .dens)) (now (s .tempos))) _ _ Passed (m .maps-test .ensures) (c .before .before .before .enum-told .given .1))
 
 pub next-bar-spec : {M : Type 1} → statement M
 next-bar-spec =

@@ -22,18 +22,25 @@ enum-told c = search needs
 
 position-bars-requires : tie.Need-position-bars-requires
 position-bars-requires c κs =
-    let s = c .before .before .before .before .before .before .args in maps-parallel (now (s .nums)) (now (s .dens)) (now (s .tempos)) (s .t) (now (s .words)) _ (c .before .before .maps-test .ensures) (c .enum-told .given .1)
+    let m = c .before .before in
+    let s = m .before .before .before .before .args in
+    maps-parallel (now (s .nums)) (now (s .dens)) (now (s .tempos)) (s .t) (now (s .words)) _ (m .maps-test .ensures) (c .enum-told .given .1)
 
 returns : tie.Need-returns
 returns c =
-    let s = c .before .before .before .before .before .before .before .args in by-test (s .t) (mapsTest (now (s .words)) (now (s .nums)) (now (s .dens)) (now (s .tempos))) _ _ (Refused _) (c .before .before .before .maps-test .ensures) (c .before .why .given .1)
+    let m = c .before .before .before in
+    let s = m .before .before .before .before .args in
+    by-test (s .t) (mapsTest (now (s .words)) (now (s .nums)) (now (s .dens)) (now (s .tempos))) _ _ (Refused _) (m .maps-test .ensures) (c .before .why .given .1)
 
 returns-2 : tie.Need-returns-2
 returns-2 c =
-    let s = c .before .before .before .before .before .before .before .args in
+    let m = c .before .before .before in
+    let s = m .before .before .before .before .args in
     let map = pointsOf (now (s .words)) in
     let points = tempoPoints (now (s .nums)) (now (s .dens)) (now (s .tempos)) in
-    rw (c .position-bars .ensures) (by-test (s .t) (mapsTest (now (s .words)) (now (s .nums)) (now (s .dens)) (now (s .tempos))) (accepted (positionBars (s .t) map points)) _ Passed (c .before .before .before .maps-test .ensures) (c .before .enum-told .given .1))
+    let answer = accepted (positionBars (s .t) map points) in
+    rw (c .position-bars .ensures)
+    (by-test (s .t) (mapsTest (now (s .words)) (now (s .nums)) (now (s .dens)) (now (s .tempos))) answer _ Passed (m .maps-test .ensures) (c .before .enum-told .given .1))
 
 pub position-bars-spec : {M : Type 1} → statement M
 position-bars-spec =

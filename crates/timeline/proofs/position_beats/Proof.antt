@@ -21,17 +21,24 @@ enum-told c = search needs
 
 position-beats-requires : tie.Need-position-beats-requires
 position-beats-requires c κs =
-    let s = c .before .before .before .before .before .args in tempo-parallel (now (s .nums)) (now (s .dens)) (now (s .tempos)) (s .t) _ (c .before .before .tempo-test .ensures) (c .enum-told .given .1)
+    let m = c .before .before in
+    let s = m .before .before .before .args in
+    tempo-parallel (now (s .nums)) (now (s .dens)) (now (s .tempos)) (s .t) _ (m .tempo-test .ensures) (c .enum-told .given .1)
 
 returns : tie.Need-returns
 returns c =
-    let s = c .before .before .before .before .before .before .args in by-test (s .t) (mapTest (now (s .nums)) (now (s .dens)) (now (s .tempos))) _ _ (Refused _) (c .before .before .before .tempo-test .ensures) (c .before .why .given .1)
+    let m = c .before .before .before in
+    let s = m .before .before .before .args in
+    by-test (s .t) (mapTest (now (s .nums)) (now (s .dens)) (now (s .tempos))) _ _ (Refused _) (m .tempo-test .ensures) (c .before .why .given .1)
 
 returns-2 : tie.Need-returns-2
 returns-2 c =
-    let s = c .before .before .before .before .before .before .args in
+    let m = c .before .before .before in
+    let s = m .before .before .before .args in
     let points = tempoPoints (now (s .nums)) (now (s .dens)) (now (s .tempos)) in
-    rw (c .position-beats .ensures) (by-test (s .t) (mapTest (now (s .nums)) (now (s .dens)) (now (s .tempos))) (accepted (positionBeats (s .t) points)) _ Passed (c .before .before .before .tempo-test .ensures) (c .before .enum-told .given .1))
+    let answer = accepted (positionBeats (s .t) points) in
+    rw (c .position-beats .ensures)
+    (by-test (s .t) (mapTest (now (s .nums)) (now (s .dens)) (now (s .tempos))) answer _ Passed (m .tempo-test .ensures) (c .before .enum-told .given .1))
 
 pub position-beats-spec : {M : Type 1} → statement M
 position-beats-spec =

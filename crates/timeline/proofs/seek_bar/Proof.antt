@@ -20,7 +20,9 @@ enum-told c = search needs
 
 frame-at-bar-requires : tie.Need-frame-at-bar-requires
 frame-at-bar-requires c κs =
-    let s = c .before .before .before .before .before .before .args in maps-parallel (now (s .nums)) (now (s .dens)) (now (s .tempos)) (s .t) (now (s .words)) _ (c .before .before .maps-test .ensures) (c .enum-told .given .1)
+    let m = c .before .before in
+    let s = m .before .before .before .before .args in
+    maps-parallel (now (s .nums)) (now (s .dens)) (now (s .tempos)) (s .t) (now (s .words)) _ (m .maps-test .ensures) (c .enum-told .given .1)
 
 sought-requires : tie.Need-sought-requires
 sought-requires c κs = search needs
@@ -30,14 +32,16 @@ done-requires c κs = search needs
 
 returns : tie.Need-returns
 returns c =
-    let s = c .before .before .before .before .before .before .before .before .args in
-    rw (c .handed-back .ensures) (refused-change (s .t) (mapsTest (now (s .words)) (now (s .nums)) (now (s .dens)) (now (s .tempos))) _ _ (c .before .before .before .before .maps-test .ensures) _ (c .before .before .why .given .1))
+    let m = c .before .before .before .before in
+    let s = m .before .before .before .before .args in
+    rw (c .handed-back .ensures) (refused-change (s .t) (mapsTest (now (s .words)) (now (s .nums)) (now (s .dens)) (now (s .tempos))) _ _ (m .maps-test .ensures) _ (c .before .before .why .given .1))
 
 returns-2 : tie.Need-returns-2
 returns-2 c =
-    let s = c .before .before .before .before .before .before .before .before .before .args in
+    let m = c .before .before .before .before .before in
+    let s = m .before .before .before .before .args in
     rw (c .done .ensures, c .before .sought .ensures, c .before .before .frame-at-bar .ensures)
-    (passed-change (s .t) (mapsTest (now (s .words)) (now (s .nums)) (now (s .dens)) (now (s .tempos))) _ _ (c .before .before .before .before .before .maps-test .ensures) (c .before .before .before .enum-told .given .1))
+    (passed-change (s .t) (mapsTest (now (s .words)) (now (s .nums)) (now (s .dens)) (now (s .tempos))) _ _ (m .maps-test .ensures) (c .before .before .before .enum-told .given .1))
 
 pub seek-bar-spec : {M : Type 1} → statement M
 seek-bar-spec =

@@ -20,7 +20,9 @@ enum-told c = search needs
 
 frame-at-beat-requires : tie.Need-frame-at-beat-requires
 frame-at-beat-requires c κs =
-    let s = c .before .before .before .before .before .args in tempo-parallel (now (s .nums)) (now (s .dens)) (now (s .tempos)) (s .t) _ (c .before .before .tempo-test .ensures) (c .enum-told .given .1)
+    let m = c .before .before in
+    let s = m .before .before .before .args in
+    tempo-parallel (now (s .nums)) (now (s .dens)) (now (s .tempos)) (s .t) _ (m .tempo-test .ensures) (c .enum-told .given .1)
 
 sought-requires : tie.Need-sought-requires
 sought-requires c κs = search needs
@@ -30,14 +32,16 @@ done-requires c κs = search needs
 
 returns : tie.Need-returns
 returns c =
-    let s = c .before .before .before .before .before .before .before .args in
-    rw (c .handed-back .ensures) (refused-change (s .t) (mapTest (now (s .nums)) (now (s .dens)) (now (s .tempos))) _ _ (c .before .before .before .before .tempo-test .ensures) _ (c .before .before .why .given .1))
+    let m = c .before .before .before .before in
+    let s = m .before .before .before .args in
+    rw (c .handed-back .ensures) (refused-change (s .t) (mapTest (now (s .nums)) (now (s .dens)) (now (s .tempos))) _ _ (m .tempo-test .ensures) _ (c .before .before .why .given .1))
 
 returns-2 : tie.Need-returns-2
 returns-2 c =
-    let s = c .before .before .before .before .before .before .before .before .args in
+    let m = c .before .before .before .before .before in
+    let s = m .before .before .before .args in
     rw (c .done .ensures, c .before .sought .ensures, c .before .before .frame-at-beat .ensures)
-    (passed-change (s .t) (mapTest (now (s .nums)) (now (s .dens)) (now (s .tempos))) _ _ (c .before .before .before .before .before .tempo-test .ensures) (c .before .before .before .enum-told .given .1))
+    (passed-change (s .t) (mapTest (now (s .nums)) (now (s .dens)) (now (s .tempos))) _ _ (m .tempo-test .ensures) (c .before .before .before .enum-told .given .1))
 
 pub seek-beat-spec : {M : Type 1} → statement M
 seek-beat-spec =

@@ -34,9 +34,16 @@ clamp-f64-requires c κs = search needs
 returns : tie.Need-returns
 unfolding ofBits
 returns c =
-    let s = c .before .before .before .before .before .before .before .before .before .before .before .args in
-    bars-are (s .t) (pointsOf (now (s .words))) _ _ (rw (c .before .before .before .before .before .before .nearest-beat .ensures, c .before .before .before .before .before .before .before .position-beats .ensures)) _ _ _ _ _
-    (record { bar-is = c .before .before .before .before .before .current-bar .ensures; start-is = c .before .before .before .before .start .ensures; len-is = c .before .before .before .length .ensures; part-is = c .before .part-of .ensures; kept-is = c .clamp-f64 .ensures })
+    let d = c .before .before .before .before .before in
+    let s = d .before .before .before .before .before .before .args in
+    bars-are (s .t) (pointsOf (now (s .words))) _ _ (rw (d .before .nearest-beat .ensures, d .before .before .position-beats .ensures)) _ _ _ _ _
+    (record {
+      bar-is = d .current-bar .ensures;
+      start-is = c .before .before .before .before .start .ensures;
+      len-is = c .before .before .before .length .ensures;
+      part-is = c .before .part-of .ensures;
+      kept-is = c .clamp-f64 .ensures;
+    })
 
 pub position-bars-spec : {M : Type 1} → statement M
 position-bars-spec =

@@ -1,5 +1,4 @@
 -- Each refusal by its name.
-use mathlib.Core.Path.{_∙_}
 use borrow.Author.Needs.{needs}
 use Rattle.timeline.proofs.tests.handed_back.Statement.{statement}
 use Rattle.timeline.proofs.tests.handed_back.Tie as tie
