@@ -36,7 +36,7 @@ layerOf a words b more = ifBoth words more (accepted (phrase (sortByStep (notesO
 
 -- ---- a part of a pattern, or all of it at another speed
 
--- the notes that start in the window; its bars
+-- the notes that start in the window, and the bars that hold its len
 abbrev pub sliceOf : Pattern → List ℕ → ℕ → ℕ → ℕ → Answer Phrase
 sliceOf p words start len stepsPerBar = ifNotes words (accepted (phrase (window start len (notesOf words)) (barsFor len stepsPerBar)))
 
@@ -56,6 +56,7 @@ stretchOf p words num den =
 
 -- ---- each note changed in the same way: the pattern stays as it is
 
+-- in their order
 abbrev pub mapped : (Note → Note) → Pattern → List ℕ → Answer Phrase
 mapped change p words = ifNotes words (accepted (record { notes = map change (notesOf words); pattern = p }))
 
@@ -63,21 +64,27 @@ mapped change p words = ifNotes words (accepted (record { notes = map change (no
 abbrev pub mappedSorted : (Note → Note) → Pattern → List ℕ → Answer Phrase
 mappedSorted change p words = ifNotes words (accepted (record { notes = sortByStep (map change (notesOf words)); pattern = p }))
 
+-- each step becomes (step + shift) mod the pattern's steps
 abbrev pub rotateOf : Pattern → List ℕ → ℤ → ℕ → Answer Phrase
 rotateOf p words shift stepsPerBar = mappedSorted (rotated shift (totalSteps (p .bars) stepsPerBar)) p words
 
+-- each note mirrored in time
 abbrev pub reverseOf : Pattern → List ℕ → ℕ → Answer Phrase
 reverseOf p words stepsPerBar = mappedSorted (mirrored (totalSteps (p .bars) stepsPerBar)) p words
 
+-- each step at the nearest multiple of the grid
 abbrev pub quantizeOf : Pattern → List ℕ → ℕ → Answer Phrase
 quantizeOf p words grid = mappedSorted (snapped grid) p words
 
+-- each gain times scale
 abbrev pub velOf : Pattern → List ℕ → Float → Answer Phrase
 velOf p words scale = mapped (scaled scale) p words
 
+-- each len times factor
 abbrev pub gateOf : Pattern → List ℕ → Float → Answer Phrase
 gateOf p words factor = mapped (gated factor) p words
 
+-- what the copier does, as these calls use it
 abbrev pub eachOf : Change → Pattern → List ℕ → Answer Phrase
 eachOf how = mapped (changed how)
 
