@@ -2,24 +2,28 @@
 use mathlib.Core.Path.{_≡_, refl, sym, ap, _∙_, subst}
 use mathlib.Core.Bool.{Bool, true, false, _&&_, cond}
 use mathlib.Core.List.{List, [], _∷_}
-use Prim.Native.Nat.{ℕ, zero, suc, _+_, _≤_, _<_}
+use Prim.Native.Nat.{ℕ, zero, suc, _+_, _*_, _^_, _≤_, _<_}
 use native.Mathlib.Nat.{le-refl, le-trans}
 use native.Mathlib.Omega.{arith}
-use borrow.Author.Tests.{le-leb}
-use lib.Dec.{T, leb, lit≤}
-use lib.IntN.{ℤ, pos}
+use borrow.Author.Tests.{le-leb, ltb-false}
+use lib.Dec.{T, leb, lit<, lit≤}
+use lib.IntN.{ℤ, pos, natAbs, _*ℤ_}
+use lib.Signed.{ltZ}
 use lib.Ieee.{Float, inf, le}
 use lib.Ieee.Scale.{finite}
 use lib.ListN.{length}
-use Rattle.numbers.specs.Answers.{Answer, accepted, refused}
+use Rattle.numbers.specs.Answers.{Answer, accepted}
+use Rattle.numbers.proofs.Laws.{by-order}
 use Rattle.rounding.specs.Floats.{float0, float1}
 use Rattle.rounding.proofs.Laws.{max-positive}
 use Rattle.beats.specs.declared.Beat.{Beat}
+use Rattle.beats.specs.Beats.{isBeat}
 use Rattle.beats.specs.Sums.{belowBeat}
+use Rattle.beats.specs.Frames.{beatFloat}
 use Rattle.beats.proofs.Laws.{beat-above}
 use Rattle.meter.specs.Meters.{pointsOf}
-use Rattle.meter.specs.Starts.{zeroBeat, startOf}
-use Rattle.meter.proofs.Laws.{fit-rising, start-zero}
+use Rattle.meter.specs.Starts.{zeroBeat, startOf, exactStart}
+use Rattle.meter.proofs.Laws.{fit-rising, fit-exact, start-zero}
 use Rattle.tempo.specs.declared.MapTest.the-variants.{Sound}
 use Rattle.tempo.specs.Answers.{mapTest}
 use Rattle.tempo.specs.Tempos.{TempoPoint, tempoPoints}
@@ -34,7 +38,9 @@ use Rattle.filler.specs.Fills.{entries, barLines, newOr, fillAnswer, fil
 use Rattle.filler.specs.Promise.{InOrder, LinesPromise}
 use Rattle.filler.proofs.Filling.{entries-length}
 use Rattle.filler.proofs.Testing.{accepted-known}
-use Rattle.filler.proofs.Ordering.{Placed, placed-zero, placed-finite, placed-up, beat-zero, frames-up}
+use Rattle.filler.proofs.Ordering.{Placed, placed-zero, beat-zero, frames-up}
+use Rattle.filler.proofs.Wide.{Dyadic, wide-finite, wide-zero, dyadic-up}
+use Rattle.filler.proofs.Sixteenths.{starts-dyadic}
 use Rattle.filler.proofs.Rising.{map-rises}
 
 -- ---- seconds
@@ -56,18 +62,75 @@ module _ (t : Transport) (words : List ℕ) (nums : List ℤ) (dens tempos : Lis
   in-turn : (i j : ℕ) → i ≤ j → j < n → belowBeat (start j) (start i) ≡ false
   in-turn i j h l = fit-rising (pointsOf words) (t .«beats_per_bar») (t .pickup) (o .fits) .rises i j h (omega arith)
 
-  start-placed : (bar : ℕ) → bar < n → Placed (start bar)
-  start-placed bar l =
-      placed-zero (start bar) (beat-above (start bar) (fit-rising (pointsOf words) (t .«beats_per_bar») (t .pickup) (o .fits) .beats bar (omega arith))) (o .starts bar l)
-      (ap (belowBeat (start bar)) (start-zero (pointsOf words) (t .«beats_per_bar») (t .pickup) 0 refl) ∙ in-turn 0 bar (omega arith) l)
+  beats : (bar : ℕ) → bar < n → isBeat (start bar) ≡ true
+  beats bar l = fit-rising (pointsOf words) (t .«beats_per_bar») (t .pickup) (o .fits) .beats bar (omega arith)
 
+  start-zero-is : zeroBeat ≡ start 0
+  start-zero-is = start-zero (pointsOf words) (t .«beats_per_bar») (t .pickup) 0 refl
+
+  -- the numerators are those of the machine
+  abbrev limit : ℕ
+  limit = 9223372036854775807
+
+  start-placed : (bar : ℕ) → bar < n → Placed limit (start bar)
+  start-placed bar l = placed-zero limit (start bar) (beat-above (start bar) (beats bar l)) (o .starts bar l) (ap (belowBeat (start bar)) start-zero-is ∙ in-turn 0 bar (omega arith) l)
+
+  module _ (bar : ℕ) (l : bar < n) where
+    abbrev placed : Placed limit (start bar)
+    placed = start-placed bar l
+
+    start-finite : T (finite (floatOf (start bar)))
+    start-finite =
+        subst (λ (z : ℤ). T (finite (beatFloat z (start bar .den)))) (sym (placed .is)) (wide-finite (placed .size) (start bar .den) (le-trans (placed .small) (lit≤ tt)) (placed .above) (placed .narrow))
+
+    -- not before beat 0, whatever its denominator
+    after-zero : (d : ℕ) → 0 < d → d ≤ 2 ^ 53 → Up (beatFloat (pos 0) d) (floatOf (start bar))
+    after-zero d D L =
+        subst (λ (z : ℤ). Up (beatFloat (pos 0) d) (beatFloat z (start bar .den))) (sym (placed .is))
+        (wide-zero (placed .size) (start bar .den) (le-trans (placed .small) (lit≤ tt)) (placed .above) (placed .narrow) d D L)
+
+    from-zero : T (le float0 (floatOf (start bar)))
+    from-zero = subst (λ (x : Float). T (le x (floatOf (start bar)))) beat-zero (up→le (beatFloat (pos 0) 1) (floatOf (start bar)) (after-zero 1 (lit< tt) (lit≤ tt)))
+
+  -- floats in order: by their denominators, which differ by a power of two
   start-up : (i j : ℕ) → i ≤ j → j < n → Up (floatOf (start i)) (floatOf (start j))
-  start-up i j h l = placed-up (start i) (start j) (start-placed i (omega arith)) (start-placed j l) (in-turn i j h l)
+  start-up i j h l = go (p .size) refl
+    where
+      k : i < n
+      k = omega arith
 
-  from-zero : (bar : ℕ) → bar < n → T (le float0 (floatOf (start bar)))
-  from-zero bar l =
-      subst (λ (x : Float). T (le x (floatOf (start bar)))) (ap floatOf (sym (start-zero (pointsOf words) (t .«beats_per_bar») (t .pickup) 0 refl)) ∙ beat-zero)
-      (up→le (floatOf (start 0)) (floatOf (start bar)) (start-up 0 bar (omega arith) l))
+      p : Placed limit (start i)
+      p = start-placed i k
+
+      q : Placed limit (start j)
+      q = start-placed j l
+
+      exact-is : (bar : ℕ) → bar < n → start bar ≡ exactStart (pointsOf words) (t .«beats_per_bar») (t .pickup) bar
+      exact-is bar g = fit-exact (pointsOf words) (t .«beats_per_bar») (t .pickup) (o .fits) bar (omega arith)
+
+      above-zero : (z : ℕ) → p .size ≡ suc z → 0 < i
+      above-zero z e = by-order 0 i (λ g. g) (λ g. let i0 : i ≡ 0 = omega arith in
+          let none : p .size ≡ 0 = ap natAbs (sym (p .is) ∙ ap (λ (b : ℕ). start b .num) i0 ∙ ap (λ (b : Beat). b .num) (sym start-zero-is)) in
+          absurd (omega arith))
+
+      cross : p .size * start j .den ≤ q .size * start i .den
+      cross = ltb-false (q .size * start i .den) (p .size * start j .den) (sym (λ x. ltZ (q .is x *ℤ pos (start i .den)) (p .is x *ℤ pos (start j .den))) ∙ in-turn i j h l)
+
+      alike : 0 < i → Dyadic (start i .den) (start j .den)
+      alike g =
+          let a = exact-is i k in
+          let b = exact-is j l in
+          subst (λ (x : Beat). Dyadic (start i .den) (x .den)) (sym b)
+          (subst (λ (x : Beat). Dyadic (x .den) (exactStart (pointsOf words) (t .«beats_per_bar») (t .pickup) j .den)) (sym a)
+          (starts-dyadic (pointsOf words) (t .«beats_per_bar») (t .pickup) (o .fits .sound) i (p .size) (ap (λ (x : Beat). x .num) (sym a) ∙ p .is) g j (q .size) h (ap (λ (x : Beat). x .num) (sym b) ∙ q .is)))
+
+      go : (z : ℕ) → p .size ≡ z → Up (floatOf (start i)) (floatOf (start j))
+      go zero e = subst (λ (x : ℤ). Up (beatFloat x (start i .den)) (floatOf (start j))) (sym (p .is ∙ ap pos e)) (after-zero j l (start i .den) (p .above) (p .narrow))
+      go (suc z) e =
+          subst (λ (x : ℤ). Up (beatFloat x (start i .den)) (floatOf (start j))) (sym (p .is))
+          (subst (λ (x : ℤ). Up (beatFloat (pos (p .size)) (start i .den)) (beatFloat x (start j .den))) (sym (q .is))
+          (dyadic-up (p .size) (start i .den) (q .size) (start j .den) (omega arith) (le-trans (p .small) (lit≤ tt)) (le-trans (q .small) (lit≤ tt)) (p .above) (q .above) (p .narrow) (q .narrow)
+          (alike (above-zero z e)) cross))
 
   line-up : (i j : ℕ) → i ≤ j → j < n → frameAtBar t (pointsOf words) (tempoPoints nums dens tempos) i ≤ frameAtBar t (pointsOf words) (tempoPoints nums dens tempos) j
   line-up i j h l =
@@ -77,7 +140,7 @@ module _ (t : Transport) (words : List ℕ) (nums : List ℤ) (dens tempos : Lis
       rw (bar-frame t (pointsOf words) points i, bar-frame t (pointsOf words) points j)
       (frames-up (secondsOf (t .bpm) points a) (secondsOf (t .bpm) points b) (t .«sample_rate») (le-trans (o .rate) (lit≤ tt))
       (seconds-of-up (t .bpm) points (o .finite) (map-rises nums dens tempos (tempo.sound nums dens tempos m .beats) (o .sound) (o .points)) a b
-      (placed-finite (start i) (start-placed i (omega arith))) (placed-finite (start j) (start-placed j l)) (from-zero i (omega arith)) (start-up i j h l)))
+      (start-finite i (omega arith)) (start-finite j l) (from-zero i (omega arith)) (start-up i j h l)))
 
 -- ---- a list of entries that do not fall
 

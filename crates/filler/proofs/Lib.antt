@@ -6,6 +6,8 @@ pub mod Serving
 pub mod Filling
 pub mod Testing
 pub mod Ordering
+pub mod Wide
+pub mod Sixteenths
 pub mod Rising
 pub mod Descends
 pub mod Readings

@@ -57,30 +57,32 @@ frames-up x y (suc r) l h =
 not-zero : (n : ℕ) → T (ltb 0 n) → eqb n 0 ≡ false
 not-zero n t = ne-eqb n 0 (λ e. let h : 0 < n = ltb→lt 0 n t in omega arith)
 
--- a quotient of two floats that are whole numbers is the fraction, rounded once
-quotient : (f : Format) (x y : Float) (a b : ℕ) → 0 < b → HasValue x false a 1 → HasValue y false b 1 → div f x y ≡ round f false a b
+-- a quotient by a float that is a whole number is the fraction, rounded once
+pub quotient : (f : Format) (x y : Float) (a c b : ℕ) → 0 < b → 0 < c → HasValue x false a c → HasValue y false b 1 → div f x y ≡ round f false a (b * c)
 unfolding div
-quotient f nan y a b B h k = absurd h
-quotient f (inf t) y a b B h k = absurd h
-quotient f (fin true m e) y a b B h k = absurd (true≢false (h .0))
-quotient f (fin false m e) nan a b B h k = absurd k
-quotient f (fin false m e) (inf t) a b B h k = absurd k
-quotient f (fin false m e) (fin true o g) a b B h k = absurd (true≢false (k .0))
-quotient f (fin false m e) (fin false o g) a b B h k =
+quotient f nan y a c b B C h k = absurd h
+quotient f (inf t) y a c b B C h k = absurd h
+quotient f (fin true m e) y a c b B C h k = absurd (true≢false (h .0))
+quotient f (fin false m e) nan a c b B C h k = absurd k
+quotient f (fin false m e) (inf t) a c b B C h k = absurd k
+quotient f (fin false m e) (fin true o g) a c b B C h k = absurd (true≢false (k .0))
+quotient f (fin false m e) (fin false o g) a c b B C h k =
     rw (not-zero o (positive-of-value (fin false o g) b 1 (refl, k .1) B))
-    (round-same f false (m * up e * down g) (o * up g * down e) a b (mul-pos (mul-pos (ltb→lt 0 o (positive-of-value (fin false o g) b 1 (refl, k .1) B)) (up-pos g)) (down-pos e)) B
+    (round-same f false (m * up e * down g) (o * up g * down e) a (b * c) (mul-pos (mul-pos (ltb→lt 0 o (positive-of-value (fin false o g) b 1 (refl, k .1) B)) (up-pos g)) (down-pos e)) (mul-pos B C)
     (go (m * up e) (o * up g) (down e) (down g) (h .1) (k .1)))
   where
-    go : (x y p q : ℕ) → x * 1 ≡ a * p → y * 1 ≡ b * q → x * q * b ≡ a * (y * p)
+    go : (x y p q : ℕ) → x * c ≡ a * p → y * 1 ≡ b * q → x * q * (b * c) ≡ a * (y * p)
     go x y p q u v =
-        let u' : x ≡ a * p = sym (mul-one x) ∙ u in
         let v' : y ≡ b * q = sym (mul-one y) ∙ v in
-        rw (u', v') (simp (mul-assoc, mul-comm, mul-left-comm))
+        let l : x * q * (b * c) ≡ x * c * (b * q) = simp (mul-assoc, mul-comm, mul-left-comm) in
+        l ∙ ap (λ (z : ℕ). z * (b * q)) u ∙ rw v' (simp (mul-assoc, mul-comm, mul-left-comm))
 
 -- a beat with a numerator up to 2 ^ 53 is its fraction, rounded once
-beat-is : (n d : ℕ) → n ≤ 2 ^ 53 → 0 < d → d ≤ 2 ^ 53 → beatFloat (pos n) d ≡ round binary64 false n d
+pub beat-is : (n d : ℕ) → n ≤ 2 ^ 53 → 0 < d → d ≤ 2 ^ 53 → beatFloat (pos n) d ≡ round binary64 false n d
 unfolding ofInt
-beat-is n d N D L = quotient binary64 (round binary64 false n 1) (round binary64 false d 1) n d D (round-whole binary64 false n N) (round-whole binary64 false d L)
+beat-is n d N D L =
+    quotient binary64 (round binary64 false n 1) (round binary64 false d 1) n 1 d D (lit< tt) (round-whole binary64 false n N) (round-whole binary64 false d L)
+    ∙ ap (round binary64 false n) (mul-one d)
 
 -- so it keeps the order
 pub beat-up : (n d n' d' : ℕ) → n ≤ 2 ^ 53 → n' ≤ 2 ^ 53 → 0 < d → 0 < d' → d ≤ 2 ^ 53 → d' ≤ 2 ^ 53 → n * d' ≤ n' * d → Up (beatFloat (pos n) d) (beatFloat (pos n') d')
@@ -90,7 +92,7 @@ beat-up n d n' d' N N' D D' L L' h =
     (round-up binary64 n d n' d' D D' h))
 
 -- what is at most a finite value is finite
-finite-under : (x y : Float) → T (finite y) → Up x y → T (finite x)
+pub finite-under : (x y : Float) → T (finite y) → Up x y → T (finite x)
 finite-under nan y F h = absurd h
 finite-under (inf true) y F h = absurd h
 finite-under (inf false) nan F h = absurd h
@@ -115,25 +117,29 @@ pub beat-zero : beatFloat (pos 0) 1 ≡ float0
 unfolding ofInt div round
 beat-zero = refl
 
--- ---- the same of beats as they stand: a beat that is small and not below 0
+-- ---- the same of beats as they stand: a beat that is not below 0, with a numerator up to `most`
 
-pub record Placed (beat : Beat) : Type 0 where
+pub record Placed (most : ℕ) (beat : Beat) : Type 0 where
   pub size : ℕ
   pub is : beat .num ≡ pos size
-  pub small : size ≤ 2 ^ 53
+  pub small : size ≤ most
   pub above : 0 < beat .den
   pub narrow : beat .den ≤ 2 ^ 53
 
-pub zero-placed : Placed (wholeBeat (pos 0))
+-- 2 ^ 53
+abbrev pub exactly : ℕ
+exactly = 9007199254740992
+
+pub zero-placed : Placed exactly (wholeBeat (pos 0))
 zero-placed = record { size = 0; is = refl; small = lit≤ tt; above = lit< tt; narrow = lit≤ tt }
 
-pub placed-finite : (a : Beat) → Placed a → T (finite (beatFloat (a .num) (a .den)))
-placed-finite a p = subst (λ (z : ℤ). T (finite (beatFloat z (a .den)))) (sym (p .is)) (beat-finite (p .size) (a .den) (p .small) (p .above) (p .narrow))
+pub placed-finite : (a : Beat) → Placed exactly a → T (finite (beatFloat (a .num) (a .den)))
+placed-finite a p = subst (λ (z : ℤ). T (finite (beatFloat z (a .den)))) (sym (p .is)) (beat-finite (p .size) (a .den) (le-trans (p .small) (lit≤ tt)) (p .above) (p .narrow))
 
-module _ (a b : Beat) (p : Placed a) (q : Placed b) where
+module _ (a b : Beat) (p : Placed exactly a) (q : Placed exactly b) where
   placed-cross : p .size * b .den ≤ q .size * a .den → Up (beatFloat (a .num) (a .den)) (beatFloat (b .num) (b .den))
   placed-cross h =
-      rw (p .is, q .is) (beat-up (p .size) (a .den) (q .size) (b .den) (p .small) (q .small) (p .above) (q .above) (p .narrow) (q .narrow) h)
+      rw (p .is, q .is) (beat-up (p .size) (a .den) (q .size) (b .den) (le-trans (p .small) (lit≤ tt)) (le-trans (q .small) (lit≤ tt)) (p .above) (q .above) (p .narrow) (q .narrow) h)
 
   -- of two, the one that is not below the other has the float that is not below the other's
   pub placed-up : belowBeat b a ≡ false → Up (beatFloat (a .num) (a .den)) (beatFloat (b .num) (b .den))
@@ -146,32 +152,32 @@ module _ (a b : Beat) (p : Placed a) (q : Placed b) where
 
 -- ---- which beats are
 
-module _ (a : Beat) (d : 0 < a .den) (s : smallBeat a ≡ true) where
-  placed-pos : (n : ℕ) → a .num ≡ pos n → Placed a
+module _ (most : ℕ) (a : Beat) (d : 0 < a .den) (s : smallBeat most a ≡ true) where
+  placed-pos : (n : ℕ) → a .num ≡ pos n → Placed most a
   placed-pos n e =
       record {
         size = n;
         is = e;
-        small = le-trans (leb-true n 9007199254740992 (ap (λ (z : ℤ). leZ z (pos 9007199254740992)) (sym e) ∙ and-left (leZ (a .num) (pos 9007199254740992)) (leb (a .den) 4294967295) s)) (lit≤ tt);
+        small = leb-true n most (ap (λ (z : ℤ). leZ z (pos most)) (sym e) ∙ and-left (leZ (a .num) (pos most)) (leb (a .den) 4294967295) s);
         above = d;
-        narrow = le-trans (leb-true (a .den) 4294967295 (and-right (leZ (a .num) (pos 9007199254740992)) (leb (a .den) 4294967295) s)) (lit≤ tt);
+        narrow = le-trans (leb-true (a .den) 4294967295 (and-right (leZ (a .num) (pos most)) (leb (a .den) 4294967295) s)) (lit≤ tt);
       }
 
   -- one that is not below 0
-  pub placed-zero : belowBeat a (wholeBeat (pos 0)) ≡ false → Placed a
+  pub placed-zero : belowBeat a (wholeBeat (pos 0)) ≡ false → Placed most a
   placed-zero h = go (a .num) refl
     where
-      go : (z : ℤ) → a .num ≡ z → Placed a
+      go : (z : ℤ) → a .num ≡ z → Placed most a
       go (pos n) e = placed-pos n e
       go (negsuc n) e =
           absurd (subst T (ap (λ (z : ℤ). ltZ (z *ℤ pos 1) (pos 0 *ℤ pos (a .den))) (sym e) ∙ h)
           (parts-lt (negsuc n *ℤ pos 1) (pos 0 *ℤ pos (a .den)) (omega (arith, up-times (negsuc n) 1, down-times (negsuc n) 1, up-times (pos 0) (a .den), down-times (pos 0) (a .den)))))
 
   -- one that is above such a beat
-  pub placed-after : (b : Beat) → Placed b → belowBeat b a ≡ true → Placed a
+  pub placed-after : (b : Beat) → Placed most b → belowBeat b a ≡ true → Placed most a
   placed-after b p h = go (a .num) refl
     where
-      go : (z : ℤ) → a .num ≡ z → Placed a
+      go : (z : ℤ) → a .num ≡ z → Placed most a
       go (pos n) e = placed-pos n e
       go (negsuc n) e =
           let l = lt-parts (pos (p .size) *ℤ pos (a .den)) (negsuc n *ℤ pos (b .den)) (subst T (sym (sym (λ i. ltZ (p .is i *ℤ pos (a .den)) (e i *ℤ pos (b .den))) ∙ h)) tt) in

@@ -21,7 +21,7 @@ use Rattle.tempo.specs.Rising.{Follows, RisingFrom, RisingMap}
 use Rattle.tempo.proofs.Laws.{rising-none, rising-more, finite-tempo, up→le}
 use Rattle.problems.specs.Problems.{Problem, when, Listed, listed, soundTempo, tempoBits, tempoPointsAfter, tempoProblems}
 use Rattle.filler.specs.Promise.{smallBeat, allSmall}
-use Rattle.filler.proofs.Ordering.{Placed, zero-placed, placed-finite, placed-up, placed-below, placed-zero, placed-after, beat-zero}
+use Rattle.filler.proofs.Ordering.{Placed, exactly, zero-placed, placed-finite, placed-up, placed-below, placed-zero, placed-after, beat-zero}
 
 -- ---- a list of problems that is empty
 
@@ -47,7 +47,7 @@ tempo-finite index point e i =
     (sym (ap (λ (x : Float). not (soundTempo x)) i) ∙ none-when (not (soundTempo (ofBits binary32 (point .bits)))) 8 index (point .bits) e)
 
 -- a point that may follow
-follows : (from : Float) (index : ℕ) (num : ℤ) (den bits : ℕ) → Placed (record { num = num; den = den }) → T (le from (beatFloat num den))
+follows : (from : Float) (index : ℕ) (num : ℤ) (den bits : ℕ) → Placed exactly (record { num = num; den = den }) → T (le from (beatFloat num den))
     → tempoBits index (record { at = record { num = num; den = den }; bits = bits }) ≡ [] → Follows from (record { at = beatFloat num den; tempo = tempoOf bits })
 follows from index num den bits p l e =
     record {
@@ -58,7 +58,7 @@ follows from index num den bits p l e =
 
 -- ---- the points
 
-rises : (index : ℕ) (before : Beat) (nums : List ℤ) (dens tempos : List ℕ) → Placed before → allBeats nums dens ≡ true
+rises : (index : ℕ) (before : Beat) (nums : List ℤ) (dens tempos : List ℕ) → Placed exactly before → allBeats nums dens ≡ true
     → tempoPointsAfter index before (listed nums dens tempos) ≡ [] → allSmall (listed nums dens tempos) ≡ true → RisingFrom (beatFloat (before .num) (before .den)) (tempoPoints nums dens tempos)
 unfolding tempoPointsAfter listed allSmall allBeats tempoPoints
 rises index before [] dens tempos p b e s = tt
@@ -71,11 +71,11 @@ rises index before (num ∷ nums) (den ∷ dens) (bits ∷ tempos) p b e s =
     let rest = tempoPointsAfter (suc index) at (listed nums dens tempos) in
     let above = beat-above at (and-left (isBeat at) (allBeats nums dens) b) in
     let below = not-false (belowBeat before at) (none-when (not (belowBeat before at)) 9 index 0 (none-left after rest (none-right (tempoBits index point) (after ++ rest) e))) in
-    let q = placed-after at above (and-left (smallBeat at) (allSmall (listed nums dens tempos)) s) before p below in (
+    let q = placed-after exactly at above (and-left (smallBeat exactly at) (allSmall (listed nums dens tempos)) s) before p below in (
       follows (beatFloat (before .num) (before .den)) index num den bits q
           (up→le (beatFloat (before .num) (before .den)) (beatFloat num den) (placed-below before at p q below)) (none-left (tempoBits index point) (after ++ rest) e),
       rises (suc index) at nums dens tempos q (and-right (isBeat at) (allBeats nums dens) b)
-          (none-right after rest (none-right (tempoBits index point) (after ++ rest) e)) (and-right (smallBeat at) (allSmall (listed nums dens tempos)) s),
+          (none-right after rest (none-right (tempoBits index point) (after ++ rest) e)) (and-right (smallBeat exactly at) (allSmall (listed nums dens tempos)) s),
     )
 
 -- the map
@@ -95,9 +95,9 @@ map-rises (num ∷ nums) (den ∷ dens) (bits ∷ tempos) b e s =
     let ends = none-right late (early ++ (tempoBits 0 point ++ rest)) (none-right many (late ++ (early ++ (tempoBits 0 point ++ rest))) e) in
     let below = none-when (belowBeat at (wholeBeat (pos 0))) 7 0 0 (none-left early (tempoBits 0 point ++ rest) ends) in
     let left = none-right early (tempoBits 0 point ++ rest) ends in
-    let q = placed-zero at (beat-above at (and-left (isBeat at) (allBeats nums dens) b)) (and-left (smallBeat at) (allSmall (listed nums dens tempos)) s) below in (
+    let q = placed-zero exactly at (beat-above at (and-left (isBeat at) (allBeats nums dens) b)) (and-left (smallBeat exactly at) (allSmall (listed nums dens tempos)) s) below in (
       follows float0 0 num den bits q
           (subst (λ (x : Float). T (le x (beatFloat num den))) beat-zero
           (up→le (beatFloat (pos 0) 1) (beatFloat num den) (placed-up (wholeBeat (pos 0)) at zero-placed q below))) (none-left (tempoBits 0 point) rest left),
-      rises 1 at nums dens tempos q (and-right (isBeat at) (allBeats nums dens) b) (none-right (tempoBits 0 point) rest left) (and-right (smallBeat at) (allSmall (listed nums dens tempos)) s),
+      rises 1 at nums dens tempos q (and-right (isBeat at) (allBeats nums dens) b) (none-right (tempoBits 0 point) rest left) (and-right (smallBeat exactly at) (allSmall (listed nums dens tempos)) s),
     )

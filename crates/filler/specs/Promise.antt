@@ -1,4 +1,4 @@
--- What is promised of filled lines: for a score that fits, a tempo map without problems, finite tempos and numerators up to 2^53, none is less than the one before.
+-- What is promised of filled lines: for a score that fits, a tempo map without problems whose numerators are at most 2^53, and finite tempos, none is less than the one before.
 use mathlib.Core.Bool.{Bool, true, false, _&&_}
 use mathlib.Core.Path.{_≡_}
 use mathlib.Core.List.{List, [], _∷_}
@@ -18,13 +18,14 @@ use Rattle.transport.specs.declared.Transport.{Transport}
 use Rattle.lines.specs.Lines.{linesAnswer}
 use Rattle.filler.specs.Fills.{fillAnswer, fillAfter}
 
--- a numerator of at most 2^53, which a float holds exactly; the denominator is at most 2^32 - 1, as that of every beat
-abbrev pub smallBeat : Beat → Bool
-smallBeat beat = leZ (beat .num) (pos 9007199254740992) && leb (beat .den) 4294967295
+-- a numerator of at most `most`; the denominator is at most 2^32 - 1, as that of every beat
+abbrev pub smallBeat : ℕ → Beat → Bool
+smallBeat most beat = leZ (beat .num) (pos most) && leb (beat .den) 4294967295
 
+-- 2^53, up to which a float holds each number exactly
 unfoldable pub allSmall : List Listed → Bool
 allSmall [] = true
-allSmall (point ∷ rest) = smallBeat (point .at) && allSmall rest
+allSmall (point ∷ rest) = smallBeat 9007199254740992 (point .at) && allSmall rest
 
 -- a score whose first n lines do not descend
 pub record InOrder (t : Transport) (words : List ℕ) (nums : List ℤ) (dens tempos : List ℕ) (n : ℕ) : Type 0 where
@@ -33,7 +34,8 @@ pub record InOrder (t : Transport) (words : List ℕ) (nums : List ℤ) (dens te
   -- the own tempo, which counts where the map has no points. (The map's own are finite, since it has no problems.)
   pub finite : t .bpm ≡ inf false → ⊥
   pub points : allSmall (listed nums dens tempos) ≡ true
-  pub starts : (bar : ℕ) → bar < n → smallBeat (startOf (pointsOf words) (t .«beats_per_bar») (t .pickup) bar) ≡ true
+  -- the starts are beats of the machine, with numerators of at most 2^63 - 1: nothing more is asked of them
+  pub starts : (bar : ℕ) → bar < n → smallBeat 9223372036854775807 (startOf (pointsOf words) (t .«beats_per_bar») (t .pickup) bar) ≡ true
   -- a rate is a number of 32 bits
   pub rate : t .«sample_rate» ≤ 4294967295
 

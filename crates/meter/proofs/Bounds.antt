@@ -33,9 +33,9 @@ small-accepted : (n d : ℕ) → n ≤ 9223372036854775807 → d ≤ 4294967295 
 small-accepted n d h k = sym (fit (pos n) d (λ i. le-leb n 9223372036854775807 h i && le-leb d 4294967295 k i))
 
 -- a beat that is n / d
-record Is (beat : Beat) (n d : ℕ) : Type 0 where
-  fine : isBeat beat ≡ true
-  value : HasValue beat (pos n) d
+pub record Is (beat : Beat) (n d : ℕ) : Type 0 where
+  pub fine : isBeat beat ≡ true
+  pub value : HasValue beat (pos n) d
 
 is-same : {beat : Beat} (n m d e : ℕ) → 0 < d → n * e ≡ m * d → Is beat n d → Is beat m e
 is-same {beat} n m d e above q b = record { fine = b .fine; value = value-same beat (pos n) (pos m) d e above (ap pos q) (b .value) }
@@ -106,10 +106,10 @@ last-good (point ∷ rest) low bar found s t g =
     (later-good point bar found (record { small = leb-true (point .numerator) 4096 (and-left n (numeratorsUpTo 4096 rest) t); den = and-left d more s₂ }) g)
 
 -- a bar, in sixteenths
-abbrev sixteenths : MeterPoint → ℕ
+abbrev pub sixteenths : MeterPoint → ℕ
 sixteenths meter = meter .numerator * (64 / meter .denominator)
 
-good-len : (meter : MeterPoint) → goodDen (meter .denominator) ≡ true → Is (lenOf meter) (sixteenths meter) 16
+pub good-len : (meter : MeterPoint) → goodDen (meter .denominator) ≡ true → Is (lenOf meter) (sixteenths meter) 16
 unfolding lenOf
 good-len meter g =
     let n = meter .numerator in

@@ -11,6 +11,9 @@ pub use Rattle.meter.proofs.Exactness.{exact-beat, start-exact, starts-
 -- the same for a score that fits, and the count is the first bar that starts at or after the beat
 pub use Rattle.meter.proofs.Counting.{Rising}
 pub use Rattle.meter.proofs.Fitting.{fit-exact, fit-rising, fit-least, fit-past, fit-first, count-keeps}
+-- a bar of a meter without problems lasts a number of sixteenths; the sum of two values over one denominator
+pub use Rattle.meter.proofs.Bounds.{Is, sixteenths, good-len}
+pub use Rattle.meter.proofs.Fractions.{sum-has}
 -- bounds that suffice for a score to fit
 pub use Rattle.meter.proofs.Bounds.{suffices}
 -- no two cases of an answer read alike

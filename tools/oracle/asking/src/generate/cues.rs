@@ -41,7 +41,7 @@ fn cues(r: &mut Rng, size: Size) -> Asked {
     if r.once_in(2) {
         t.state = 1;
     }
-    let frames = match r.below(12) {
+    let frames = match r.below(14) {
         0 => r.below(2),
         1 => u64::MAX - t.position,
         2 => (u64::MAX - t.position).wrapping_add(1 + r.below(2)),
@@ -49,14 +49,17 @@ fn cues(r: &mut Rng, size: Size) -> Asked {
         4 => 4090 + r.below(20),
         5 => t.length.wrapping_sub(t.position).wrapping_add(r.below(3)).wrapping_sub(1),
         6 => t.looped.map_or(0, |(_, end)| end.wrapping_sub(t.position)).wrapping_add(r.below(3)).wrapping_sub(1),
+        // blocks as a sound card asks for them
+        7 | 8 => r.pick(&[63, 64, 65, 511, 512, 513]),
         _ => r.below(600),
     };
     let mut lines = lines(r, size, t.length);
-    // beside the loop's own frames and the position
-    if let (Some((start, end)), Size::Small) = (t.looped, size)
-        && r.once_in(3)
-    {
-        lines.extend([start, end, end.saturating_sub(1), t.position, t.length]);
+    // at the position, the program's end and the loop's, and one before
+    if size == Size::Small && r.once_in(3) {
+        lines.extend([t.position, t.length.saturating_sub(1), t.length]);
+        if let Some((start, end)) = t.looped {
+            lines.extend([start, end.saturating_sub(1), end]);
+        }
         lines.sort();
     }
     let sound = crate::refusal::sound(&t).is_ok() && t.position.checked_add(frames).is_some() && lines.is_sorted();
