@@ -29,7 +29,8 @@ returns : tie.Need-returns
 returns c =
     let w4 = c .before .before .before in
     let w2 = w4 .before .before in
-    laid-is _ (c .laid-out-by .ensures) (w2 .before .word-at .ensures) (w2 .word-at2 .ensures) (w4 .before .word-at3 .ensures) (w4 .word-at4 .ensures) (c .before .before .word-at5 .ensures) (c .before .word-at6 .ensures)
+    laid-is _ (c .laid-out-by .ensures) (w2 .before .word-at .ensures) (w2 .word-at2 .ensures) (w4 .before .word-at3 .ensures) (w4 .word-at4 .ensures)
+    (c .before .before .word-at5 .ensures) (c .before .word-at6 .ensures)
 
 pub laid-out-spec : {M : Type 1} → statement M
 laid-out-spec =
