@@ -1,12 +1,12 @@
 -- Filled lines never descend: starts do not fall, so their floats do not, nor the seconds there, nor the frames.
 use mathlib.Core.Path.{_≡_, refl, sym, ap, _∙_, subst}
-use mathlib.Core.Bool.{Bool, true, false, _&&_, cond}
+use mathlib.Core.Bool.{Bool, true, false, _&&_}
 use mathlib.Core.List.{List, [], _∷_}
 use Prim.Native.Nat.{ℕ, zero, suc, _+_, _*_, _^_, _≤_, _<_}
-use native.Mathlib.Nat.{le-refl, le-trans}
+use native.Mathlib.Nat.{le-trans}
 use native.Mathlib.Omega.{arith}
 use borrow.Author.Tests.{le-leb, ltb-false}
-use lib.Dec.{T, leb, lit<, lit≤}
+use lib.Dec.{T, lit<, lit≤}
 use lib.IntN.{ℤ, pos, natAbs, _*ℤ_}
 use lib.Signed.{ltZ}
 use lib.Ieee.{Float, inf, le}
@@ -34,7 +34,7 @@ use Rattle.transport.specs.declared.Transport.{Transport}
 use Rattle.timeline.specs.Places.{ownTempo, floatOf, secondsOf, frameAtBar}
 use Rattle.timeline.proofs.Laws.{bar-frame}
 use Rattle.lines.specs.Lines.{ascendsFrom, ascends, linesAnswer}
-use Rattle.filler.specs.Fills.{entries, barLines, newOr, fillAnswer, fillAfter}
+use Rattle.filler.specs.Fills.{entries, barLines, newOr}
 use Rattle.filler.specs.Promise.{InOrder, LinesPromise}
 use Rattle.filler.proofs.Filling.{entries-length}
 use Rattle.filler.proofs.Testing.{accepted-known}

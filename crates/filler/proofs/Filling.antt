@@ -1,7 +1,7 @@
 -- The loop over the lines: the entries before k are lines, those from k on are still marks, and both carried states hold.
-use mathlib.Core.Path.{_≡_, refl, sym, ap, _∙_, subst}
-use mathlib.Core.List.{List, [], _∷_}
-use Prim.Native.Nat.{ℕ, zero, suc, _+_, _-_, _≤_, _<_}
+use mathlib.Core.Path.{_≡_, refl, sym, ap, _∙_}
+use mathlib.Core.List.{List}
+use Prim.Native.Nat.{ℕ, zero, suc, _+_, _≤_, _<_}
 use native.Mathlib.Nat.{ne-of-lt}
 use native.Mathlib.Omega.{arith}
 use borrow.Author.Count.{below-none, below-more}
@@ -11,7 +11,6 @@ use lib.Seq.{getD-set-same, getD-set-other, ext-getD}
 use lib.Ieee.{Float}
 use Rattle.beats.specs.declared.Beat.{Beat}
 use Rattle.meter.specs.Meters.{pointsOf}
-use Rattle.meter.specs.Starts.{startOf}
 use Rattle.tempo.specs.Tempos.{tempoPoints}
 use Rattle.transport.specs.declared.Transport.{Transport}
 use Rattle.timeline.specs.Places.{floatOf, frameAtBeat, frameAtBar}

@@ -1,13 +1,13 @@
 -- The test `<=` on floats is transitive, signs, infinities and NaNs included.
-use mathlib.Core.Path.{_≡_, refl, sym, ap, _∙_, subst}
+use mathlib.Core.Path.{_≡_, sym, _∙_, subst}
 use mathlib.Core.Logic.{inl, inr}
-use mathlib.Core.Bool.{Bool, true, false, not, _&&_, _||_}
+use mathlib.Core.Bool.{Bool, true, false, _&&_, _||_}
 use Prim.Native.Nat.{ℕ, zero, suc, _+_, _*_, _≤_, _<_}
 use native.Mathlib.Nat.{le-of-lt, le-of-eq, le-trans, eq-or-lt-of-le, lt-irrefl, lt-of-lt-of-le, mul-pos}
 use native.Mathlib.Omega.{arith}
 use lib.Dec.{T, ltb, eqb, eqb→eq, eqb-refl, ltb→lt, lt→ltb}
 use lib.Ieee.{Float, nan, inf, fin, up, down, le, lt}
-use lib.Ieee.Fits.{down-pos, up-pos}
+use lib.Ieee.Fits.{down-pos}
 use lib.Ieee.Positive.{through}
 
 -- x is at most y, as numbers

@@ -1,6 +1,6 @@
 -- From seconds that do not fall to frames that do not fall, and from beats in exact order to floats in order.
 use mathlib.Core.Path.{_≡_, refl, sym, ap, _∙_, subst}
-use mathlib.Core.Bool.{Bool, true, false, true≢false, _&&_}
+use mathlib.Core.Bool.{Bool, true, false, true≢false}
 use Prim.Native.Nat.{ℕ, zero, suc, _*_, _^_, _≤_, _<_}
 use native.Mathlib.Nat.{le-of-eq, le-trans, mul-pos, mul-one, mul-comm, mul-assoc, mul-left-comm, mul-le-mul-left}
 use native.Mathlib.Omega.{arith}

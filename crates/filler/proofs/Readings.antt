@@ -4,7 +4,6 @@ use mathlib.Core.Bool.{cond}
 use lib.Dec.{eqb}
 use Rattle.numbers.specs.Answers.{Answer, accepted, refused}
 use Rattle.numbers.proofs.Laws.{Apart, apart-by}
-use Rattle.timeline.specs.declared.tests.Refusal.{Refusal}
 use Rattle.timeline.specs.declared.tests.Refusal.the-variants.{Unsound, Uneven, TooLong, NotBeat}
 use Rattle.filler.specs.declared.FillAnswer.{FillAnswer}
 use Rattle.filler.specs.declared.FillAnswer.the-variants.{Filled, Refused}

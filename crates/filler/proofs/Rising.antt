@@ -1,9 +1,8 @@
 -- A tempo map without problems whose numerators are small has points whose floats go up from 0.
 use mathlib.Core.Path.{_≡_, refl, sym, ap, _∙_, subst}
-use mathlib.Core.Bool.{Bool, true, false, not, _&&_, true≢false}
+use mathlib.Core.Bool.{Bool, true, false, not, true≢false}
 use mathlib.Core.List.{List, [], _∷_, _++_}
-use Prim.Native.Nat.{ℕ, suc, _<_}
-use native.Mathlib.Omega.{arith}
+use Prim.Native.Nat.{ℕ, suc}
 use lib.Dec.{T, ltb}
 use lib.IntN.{ℤ, pos}
 use lib.Ieee.{Float, inf, lt, le, binary32, ofBits}
@@ -18,7 +17,7 @@ use Rattle.beats.proofs.Laws.{and-left, and-right, beat-above}
 use Rattle.tempo.specs.Answers.{allBeats}
 use Rattle.tempo.specs.Tempos.{tempoOf, tempoPoints}
 use Rattle.tempo.specs.Rising.{Follows, RisingFrom, RisingMap}
-use Rattle.tempo.proofs.Laws.{rising-none, rising-more, finite-tempo, up→le}
+use Rattle.tempo.proofs.Laws.{finite-tempo, up→le}
 use Rattle.problems.specs.Problems.{Problem, when, Listed, listed, soundTempo, tempoBits, tempoPointsAfter, tempoProblems}
 use Rattle.filler.specs.Promise.{smallBeat, allSmall}
 use Rattle.filler.proofs.Ordering.{Placed, exactly, zero-placed, placed-finite, placed-up, placed-below, placed-zero, placed-after, beat-zero}

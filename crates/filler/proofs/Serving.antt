@@ -1,6 +1,6 @@
 -- The carried tempo walk: a point was passed because the beat is not at or before it, and then no later beat is; so where the walk for a beat stops, that for a later one may go on.
-use mathlib.Core.Path.{_≡_, refl, sym, ap, _∙_, subst}
-use mathlib.Core.Bool.{Bool, true, false, true≢false}
+use mathlib.Core.Path.{_≡_, refl, sym, subst}
+use mathlib.Core.Bool.{Bool, true, false}
 use mathlib.Core.List.{List}
 use Prim.Native.Nat.{ℕ, _+_, _≤_, _<_}
 use lib.Dec.{T}
@@ -9,8 +9,8 @@ use lib.ListN.{length, getD}
 use lib.Ieee.{Float, le}
 use Rattle.rounding.specs.Floats.{float0}
 use Rattle.beats.specs.Frames.{beatFloat}
-use Rattle.tempo.specs.Tempos.{tempoOf, tempoPoints, elapsed, secondsAtBeat}
-use Rattle.tempo.proofs.Laws.{pointsFrom, begins, ends, stops, goes}
+use Rattle.tempo.specs.Tempos.{tempoOf, elapsed}
+use Rattle.tempo.proofs.Laws.{begins, ends, stops, goes}
 use Rattle.timeline.specs.Places.{Parallel}
 use Rattle.filler.specs.declared.stands.Stand.{Stand}
 use Rattle.filler.specs.Carried.{Answers, Serves, Stopped}

@@ -1,11 +1,11 @@
 -- The starts of a score without meter problems have denominators that differ by a power of two alone: every bar but the first lasts a number of sixteenths,
 -- so each of two denominators divides sixteen times the other.
 use mathlib.Core.Path.{_≡_, refl, sym, ap, _∙_, subst}
-use mathlib.Core.Bool.{Bool, true, _&&_}
+use mathlib.Core.Bool.{true, _&&_}
 use mathlib.Core.Logic.{inl, inr}
 use mathlib.Core.List.{List, [], _∷_}
 use Prim.Native.Nat.{ℕ, zero, suc, _+_, _-_, _*_, _/_, _%_, _^_, _≤_, _<_, _∣_}
-use native.Mathlib.Nat.{mul-pos, mul-comm, eq-of-mul-eq-mul-right, le-of-mul-le-mul-right, le-of-eq, mul-div-cancel', add-suc, add-zero}
+use native.Mathlib.Nat.{mul-pos, eq-of-mul-eq-mul-right, le-of-mul-le-mul-right, mul-div-cancel', add-suc, add-zero}
 use native.Mathlib.Omega.{arith}
 use lib.Dec.{leb, ltb, lit<}
 use lib.ListN.{length}
@@ -18,7 +18,7 @@ use Rattle.beats.specs.Values.{HasValue}
 use Rattle.beats.proofs.Laws.{own-value, value-same, beat-above, beat-lowest, den-divides, and-left, and-right}
 use Rattle.meter.specs.declared.MeterPoint.{MeterPoint}
 use Rattle.meter.specs.declared.Pickup.{Pickup}
-use Rattle.meter.specs.Meters.{later, lastAt, fallback, meterAt, lenOf, barLen}
+use Rattle.meter.specs.Meters.{later, lastAt, fallback, meterAt, barLen}
 use Rattle.meter.specs.Starts.{exactStart}
 use Rattle.meter.specs.Fits.{goodDen, soundFrom, firstZero, soundMap}
 use Rattle.meter.proofs.Laws.{exact-beat, sum-has, good-len, sixteenths, len-rest, later-in, later-out}

@@ -1,20 +1,19 @@
 -- Beats whose denominators differ by a power of two alone keep their order as floats, whatever their numerators of 64 bits: a power of two goes through the rounding of a numerator.
-use mathlib.Core.Path.{_≡_, refl, sym, ap, _∙_, subst}
+use mathlib.Core.Path.{_≡_, sym, ap, subst}
 use mathlib.Core.Bool.{true, false}
 use mathlib.Core.Logic.{_⊎_, ⊎-elim}
-use Prim.Native.Nat.{ℕ, zero, suc, _+_, _*_, _^_, _≤_, _<_}
+use Prim.Native.Nat.{ℕ, zero, suc, _*_, _^_, _≤_, _<_}
 use native.Mathlib.Nat.{le-trans, le-of-eq, mul-pos, mul-one, one-mul, mul-comm, mul-assoc, mul-left-comm, mul-le-mul, mul-le-mul-right, le-of-mul-le-mul-right, lt-of-lt-of-le}
 use native.Mathlib.Omega.{arith}
-use lib.IntN.{ℤ, pos}
+use lib.IntN.{pos}
 use lib.Dec.{T, lit<, lit≤}
 use lib.Pow.{pow-pos}
-use lib.Ieee.{Float, nan, inf, fin, low, binary64, up, down, round, div, ofInt}
+use lib.Ieee.{Float, nan, inf, fin, low, binary64, up, down, round, ofInt}
 use lib.Ieee.Fits.{down-pos}
 use lib.Ieee.Exact.{HasValue}
 use lib.Ieee.Back.{round-whole}
 use lib.Ieee.Order.{transfer}
 use lib.Ieee.Scale.{finite, grid, round-val, round-under, grid-scale, normal-of-fraction}
-use Rattle.beats.specs.declared.Beat.{Beat}
 use Rattle.beats.specs.Frames.{beatFloat}
 use Rattle.tempo.proofs.Laws.{Up, round-up}
 use Rattle.filler.proofs.Ordering.{quotient, finite-under, beat-is}

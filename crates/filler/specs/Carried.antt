@@ -2,7 +2,7 @@
 use mathlib.Core.Bool.{Bool, cond}
 use mathlib.Core.Path.{_≡_}
 use mathlib.Core.List.{List, [], _∷_}
-use Prim.Native.Nat.{ℕ, suc, _+_, _-_, _≤_, _<_}
+use Prim.Native.Nat.{ℕ, _+_, _-_, _≤_, _<_}
 use lib.Dec.{T, leb, ltb, eqb}
 use lib.IntN.{ℤ}
 use lib.Ieee.{Float, le}
@@ -14,7 +14,6 @@ use Rattle.meter.specs.declared.Pickup.{Pickup}
 use Rattle.meter.specs.Meters.{barLen}
 use Rattle.meter.specs.Starts.{zeroBeat, afterBars, segments, startOf}
 use Rattle.tempo.specs.Tempos.{TempoPoint, tempoPoints, elapsed, walk, secondsAtBeat}
-use Rattle.transport.specs.declared.Transport.{Transport}
 use Rattle.filler.specs.declared.segments.Segment.{Segment}
 use Rattle.filler.specs.declared.stands.Stand.{Stand}
 use Rattle.filler.specs.Numbers.{forceOf}

@@ -6,15 +6,14 @@ use timeline::tests::Refusal;
 use timeline::tests::Test;
 use transport::Transport;
 ghost use mathlib.Core.Path.{_≡_};
-ghost use lib.ListN.{length};
 ghost use Rattle.timeline.specs.Tests.{testOf, worse, mapsTest};
 ghost use Rattle.filler.specs.Fills.{linesTest, fillAnswer, fillAfter};
 ghost use Rattle.filler.specs.Readings.{readFill};
 
-pub mod bar_lines;
-pub mod marks;
-pub mod segments;
-pub mod stands;
+mod bar_lines;
+mod marks;
+mod segments;
+mod stands;
 
 pub enum FillAnswer {
     Filled,

@@ -1,6 +1,5 @@
 // Which bars a meter map lists: the bar's own entry of the lent list gets the number of the point
 // listed last for it, counted from 1, and 0 where there is none.
-ghost use mathlib.Core.Path.{_≡_};
 ghost use mathlib.Core.List.{[]};
 ghost use lib.ListN.{length};
 ghost use Rattle.meter.specs.Meters.{pointsOf};

@@ -2,7 +2,7 @@
 use mathlib.Core.Path.{_∙_, ap}
 use Prim.Native.Nat.{_-_}
 use native.Mathlib.Omega.{arith}
-use lib.ListN.{length, getD}
+use lib.ListN.{length}
 use borrow.Author.Needs.{needs}
 use denote.Ref.{now}
 use Rattle.meter.specs.Meters.{pointsOf}
@@ -66,13 +66,23 @@ frame-at-requires : tie.Need-frame-at-requires Inv-loop μ-loop
 frame-at-requires c κs = (c .before .before .before .before .before .before .before .before .before .before .before .before .before .before .before .before .before .pre .0, c .go-to .ensures)
 
 mul-out : tie.Need-mul-out Inv-loop μ-loop
-mul-out c = omega (arith, c .before .before .before .before .before .before .before .before .before .before .before .before .before .before .before .before .before .before .pre .1, c .before .before .before .before .before .before .before .loop .inv .long, c .before .before .before .before .before .before .before .before .before .before .before .before .mark .ensures .long, c .before .before .before .before .before .before .loop-test .taken)
+mul-out c =
+    let turn = c .before .before .before .before .before .before in
+    let l = turn .before in
+    let m = l .before .before .before .before .before in
+    let s = m .before .before .before .before .before .before in
+    omega (arith, s .pre .1, l .loop .inv .long, m .mark .ensures .long, turn .loop-test .taken)
 
 slice-write-out : tie.Need-slice-write-out Inv-loop μ-loop
 slice-write-out c = search needs
 
 add-k : tie.Need-add-k Inv-loop μ-loop
-add-k c = omega (arith, c .before .before .before .before .before .before .before .before .before .before .before .before .before .before .before .before .before .before .pre .1, c .before .before .before .before .before .before .before .loop .inv .long, c .before .before .before .before .before .before .before .before .before .before .before .before .mark .ensures .long, c .before .before .before .before .before .before .loop-test .taken)
+add-k c =
+    let turn = c .before .before .before .before .before .before in
+    let l = turn .before in
+    let m = l .before .before .before .before .before in
+    let s = m .before .before .before .before .before .before in
+    omega (arith, s .pre .1, l .loop .inv .long, m .mark .ensures .long, turn .loop-test .taken)
 
 loop-less : tie.Need-loop-less Inv-loop μ-loop
 loop-less c = omega (arith, c .before .before .before .before .before .before .before .loop .inv .long, c .before .before .before .before .before .before .loop-test .taken)

@@ -1,5 +1,4 @@
 -- The same stand serves a beat that is not before the last one, and the beginning serves every beat.
-use borrow.Author.Needs.{needs}
 use denote.Ref.{now}
 use Rattle.filler.proofs.Serving.{serves-later}
 use Rattle.filler.proofs.stands.resume.Statement.{statement}

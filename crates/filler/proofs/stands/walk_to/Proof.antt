@@ -6,7 +6,6 @@ use mir.Syntax.{w64}
 use mir.ValLaws.{toZ-ofZ}
 use denote.Ref.{now}
 use borrow.Author.Needs.{needs}
-use Rattle.timeline.specs.Places.{Parallel}
 use Rattle.filler.specs.Carried.{Serves}
 use Rattle.filler.proofs.Serving.{stand, stopped-end, stopped-here, serves-on}
 use Rattle.filler.proofs.stands.walk_to.Statement.{statement}
@@ -38,10 +37,12 @@ float-of-requires c κs = search needs
 
 returns : tie.Need-returns Inv-loop μ-loop
 returns c =
-    let s = c .before .before .before .before .before .before .before .before in
-    let l = c .before .before .before .before .before .loop in
+    let f = c .before in
+    let r = f .before .before in
+    let l = r .before .before .loop in
+    let s = r .before .before .before .before .before in
     stopped-here (now (s .args .nums)) (now (s .args .dens)) (now (s .args .tempos)) (s .pre .0) (s .args .beat) (l .secs) (l .from) (l .tempo) (l .i) (l .inv)
-    (c .before .before .before .before .loop-test .taken) _ (toZ-ofZ w64 (getD (now (s .args .nums)) (l .i) (pos 0)) (record { sfits = c .before .before .before .t14 .given })) _ (c .before .float-of .ensures) (c .if1 .taken)
+    (r .before .loop-test .taken) _ (toZ-ofZ w64 (getD (now (s .args .nums)) (l .i) (pos 0)) (record { sfits = r .t14 .given })) _ (f .float-of .ensures) (c .if1 .taken)
 
 later-requires : tie.Need-later-requires Inv-loop μ-loop
 later-requires c κs = search needs
@@ -63,10 +64,14 @@ loop-less c = search needs
 
 loop-again : tie.Need-loop-again Inv-loop μ-loop
 loop-again c =
-    let s = c .before .before .before .before .before .before .before .before .before .before .before in
-    let l = c .before .before .before .before .before .before .before .before .loop in
+    let n = c .before .before in
+    let f = n .before .before in
+    let r = f .before .before in
+    let l = r .before .before .loop in
+    let s = r .before .before .before .before .before in
     serves-on (now (s .args .nums)) (now (s .args .dens)) (now (s .args .tempos)) (s .pre .0) (s .args .beat) (l .secs) (l .from) (l .tempo) (l .i) (l .inv)
-    (c .before .before .before .before .before .before .before .loop-test .taken) _ (toZ-ofZ w64 (getD (now (s .args .nums)) (l .i) (pos 0)) (record { sfits = c .before .before .before .before .before .before .t14 .given })) _ (c .before .before .before .before .float-of .ensures) (c .before .before .before .if1 .left) _ _ (c .before .before .later .ensures) (c .tempo-of .ensures)
+    (r .before .loop-test .taken) _ (toZ-ofZ w64 (getD (now (s .args .nums)) (l .i) (pos 0)) (record { sfits = r .t14 .given })) _ (f .float-of .ensures) (n .before .if1 .left) _ _
+    (n .later .ensures) (c .tempo-of .ensures)
 
 returns-2 : tie.Need-returns-2 Inv-loop μ-loop
 returns-2 c =
