@@ -42,7 +42,7 @@ is-same {beat} n m d e above q b = record { fine = b .fine; value = value-same b
 
 -- a multiple
 module _ (a : Beat) (x d k : ℕ) (above : 0 < d) (p : Is a x d) (sized : x * k ≤ 9223372036854775807) (fine : d ≤ 4294967295) where
-  scaled : (c : Beat) × ((mulBeat a (pos k) 1 ≡ accepted c) × Is c (x * k) d)
+  pub scaled : (c : Beat) × ((mulBeat a (pos k) 1 ≡ accepted c) × Is c (x * k) d)
   scaled =
       let u = up (a .num) in
       let c = newBeat (pos (u * k)) (a .den * 1) in
@@ -54,7 +54,7 @@ module _ (a : Beat) (x d k : ℕ) (above : 0 < d) (p : Is a x d) (sized : x * k 
 
 -- a sum
 module _ (a b : Beat) (x y d e : ℕ) (hd : 0 < d) (he : 0 < e) (p : Is a x d) (q : Is b y e) (sized : x * e + y * d ≤ 9223372036854775807) (fine : d * e ≤ 4294967295) where
-  added : (c : Beat) × ((addBeats a b ≡ accepted c) × Is c (x * e + y * d) (d * e))
+  pub added : (c : Beat) × ((addBeats a b ≡ accepted c) × Is c (x * e + y * d) (d * e))
   added =
       let u = up (a .num) in
       let w = up (b .num) in

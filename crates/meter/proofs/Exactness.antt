@@ -36,7 +36,7 @@ one-more x y n =
 
 -- ---- an answer that is accepted was accepted at each step
 
-then-accepted : {X : Type 0} (answer : Answer Beat) (next : Beat → Answer Beat) (b : Beat) → then answer next ≡ accepted b → ((c : Beat) → answer ≡ accepted c → next c ≡ accepted b → X) → X
+pub then-accepted : {X : Type 0} (answer : Answer Beat) (next : Beat → Answer Beat) (b : Beat) → then answer next ≡ accepted b → ((c : Beat) → answer ≡ accepted c → next c ≡ accepted b → X) → X
 then-accepted (accepted c) next b e k = k c refl e
 then-accepted (refused n facts) next b e k = absurd (no e)
   where
@@ -166,13 +166,13 @@ unfolding lenOf
 len-forward meter = value-forward (lenOf meter) (meter .numerator * 4) (max (meter .denominator) 1) (omega arith) (same-value (pos (meter .numerator * 4)) (meter .denominator))
 
 module _ (map : List MeterPoint) (default : ℕ) where
-  forward-beat : (pickup : Pickup) → forwardPickup pickup ≡ true → (bar : ℕ) → isBeat (barLen map default pickup bar) ≡ true
+  pub forward-beat : (pickup : Pickup) → forwardPickup pickup ≡ true → (bar : ℕ) → isBeat (barLen map default pickup bar) ≡ true
   unfolding barLen
   forward-beat Absent e zero = len-beat (meterAt map default 0)
   forward-beat (Present beat) e zero = and-left (isBeat beat) (leZ (pos 0) (beat .num)) e
   forward-beat pickup e (suc bar) = len-beat (meterAt map default (suc bar))
 
-  forward-len : (pickup : Pickup) → forwardPickup pickup ≡ true → (bar : ℕ) → down (barLen map default pickup bar .num) ≡ 0
+  pub forward-len : (pickup : Pickup) → forwardPickup pickup ≡ true → (bar : ℕ) → down (barLen map default pickup bar .num) ≡ 0
   unfolding barLen
   forward-len Absent e zero = len-forward (meterAt map default 0)
   forward-len (Present beat) e zero = not-negative (beat .num) (and-right (isBeat beat) (leZ (pos 0) (beat .num)) e)

@@ -71,11 +71,11 @@ module _ (map : List MeterPoint) (default : ℕ) (pickup : Pickup) (fits : Fits 
 
 -- ---- the call
 
-points-few : (map : List MeterPoint) → soundMap map ≡ true → length map ≤ 256
+pub points-few : (map : List MeterPoint) → soundMap map ≡ true → length map ≤ 256
 unfolding soundMap
 points-few map s = leb-true (length map) 256 (and-left (leb (length map) 256) (firstZero map && soundFrom 0 map) s)
 
-forward-sound : (pickup : Pickup) → forwardPickup pickup ≡ true → soundPickup pickup ≡ true
+pub forward-sound : (pickup : Pickup) → forwardPickup pickup ≡ true → soundPickup pickup ≡ true
 forward-sound Absent e = refl
 forward-sound (Present beat) e = and-left (isBeat beat) (leZ (pos 0) (beat .num)) e
 

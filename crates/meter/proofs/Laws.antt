@@ -3,18 +3,30 @@
 -- the points of flat words, one at a time, and how many they are
 pub use Rattle.meter.proofs.Scanning.{pointAt, left, points-step, points-end, points-length}
 -- a map without problems ascends
-pub use Rattle.meter.proofs.Passing.{sound-ascends}
+pub use Rattle.meter.proofs.Passing.{from-ascends, sound-ascends}
+-- and is short; a pickup that is not below 0 is sound
+pub use Rattle.meter.proofs.Fitting.{points-few, forward-sound}
+-- one pass over a map whose bars ascend: what is left of it, with the meter at a bar, says what the whole map says from there on
+pub use Rattle.meter.proofs.Passing.{Rest, rest-on, rest-next, rest-meter}
 -- the walk by segments, a turn at a time, for crates that carry it from bar to bar
 pub use Rattle.meter.proofs.Walking.{nearer-above, nearer-else, later-in, later-out, len-rest, segments-over, segments-turn, one, start-zero, start-segments}
 -- a start whose walk is not refused is the sum of the lengths before it; starts never fall where the pickup is not below 0
 pub use Rattle.meter.proofs.Exactness.{exact-beat, start-exact, starts-rise}
--- the same for a score that fits, and the count is the first bar that starts at or after the beat
+-- the walk that is refused as soon as one of its operations is, a step at a time, and the lengths that it starts with
+pub use Rattle.meter.proofs.Walking.{checked-end, checked-more}
+pub use Rattle.meter.proofs.Exactness.{then-accepted, forward-beat, forward-len}
+-- each start of a score that fits is that sum, and the count is the first bar that starts at or after the beat
 pub use Rattle.meter.proofs.Counting.{Rising}
 pub use Rattle.meter.proofs.Fitting.{fit-exact, fit-rising, fit-least, fit-past, fit-first, count-keeps}
 -- a bar of a meter without problems lasts a number of sixteenths; the sum of two values over one denominator
 pub use Rattle.meter.proofs.Bounds.{Is, sixteenths, good-len}
 pub use Rattle.meter.proofs.Fractions.{sum-has}
+-- a multiple and a sum of beats that are not below 0 are accepted within the limits; a beat that is not below 0 is a natural number over its denominator
+pub use Rattle.meter.proofs.Bounds.{scaled, added}
+pub use Rattle.meter.proofs.Fractions.{natural, value-forward, zero-beat}
 -- bounds that suffice for a score to fit
 pub use Rattle.meter.proofs.Bounds.{suffices}
+-- the refusals of a map and of a pickup come before everything else
+pub use Rattle.meter.proofs.Refusing.{uneven, too-long, unsound, passed}
 -- no two cases of an answer read alike
 pub use Rattle.meter.proofs.Readings.{meters-apart, bars-apart, counts-apart}

@@ -69,17 +69,33 @@ last-ahead (point ∷ rest) low bar found s h =
 
 module _ (map : List MeterPoint) (default : ℕ) (pickup : Pickup) where
   -- what is left of the map, with the meter at a bar, says what the whole map says from there on
-  record Rest (points : List MeterPoint) (bar : ℕ) (meter : MeterPoint) : Type 0 where
-    meters : (k : ℕ) → bar ≤ k → meterAt map default k ≡ lastAt points k meter
-    changes : (k end : ℕ) → bar ≤ k → nextChange map k end ≡ nextChange points k end
+  pub record Rest (points : List MeterPoint) (bar : ℕ) (meter : MeterPoint) : Type 0 where
+    pub meters : (k : ℕ) → bar ≤ k → meterAt map default k ≡ lastAt points k meter
+    pub changes : (k end : ℕ) → bar ≤ k → nextChange map k end ≡ nextChange points k end
 
-  rest-on : (point : MeterPoint) (points : List MeterPoint) (bar next : ℕ) (meter : MeterPoint) → bar ≤ next → point .bar ≤ next → Rest (point ∷ points) bar meter → Rest points next point
+  pub rest-on : (point : MeterPoint) (points : List MeterPoint) (bar next : ℕ) (meter : MeterPoint) → bar ≤ next → point .bar ≤ next → Rest (point ∷ points) bar meter → Rest points next point
   unfolding lastAt nextChange
   rest-on point points bar next meter h l r =
       record {
         meters = λ k q. r .meters k (le-trans h q) ∙ ap (lastAt points k) (later-in point k meter (le-trans l q));
         changes = λ k end q. r .changes k end (le-trans h q) ∙ ap (nextChange points k) (nearer-else (point .bar) k end (le-trans l q));
       }
+
+  -- up to the first point that is left, the change and the meter are known
+  module _ (point : MeterPoint) (points : List MeterPoint) (low bar : ℕ) (meter : MeterPoint) (s : ascends low (point ∷ points) ≡ true) (r : Rest (point ∷ points) bar meter) where
+    pub rest-next : (end n : ℕ) → min (point .bar) end ≡ n → n ≤ point .bar → bar < point .bar → nextChange map bar end ≡ n
+    unfolding nextChange
+    rest-next end n e h k =
+        r .changes bar end (le-refl bar)
+        ∙ ap (nextChange points bar) (nearer-above (point .bar) bar end k ∙ e)
+        ∙ next-ahead points (point .bar) bar n (rest-ascends point points low s) k h
+
+    pub rest-meter : bar < point .bar → meterAt map default bar ≡ meter
+    unfolding lastAt
+    rest-meter k =
+        r .meters bar (le-refl bar)
+        ∙ ap (lastAt points bar) (later-out point bar meter k)
+        ∙ last-ahead points (point .bar) bar meter (rest-ascends point points low s) k
 
   -- the walk's next step, from what it meets next
   step : (bar n end : ℕ) (meter : MeterPoint) (at : Beat) → 0 < bar → bar < end → nextChange map bar end ≡ n → meterAt map default bar ≡ meter
@@ -121,19 +137,11 @@ module _ (map : List MeterPoint) (default : ℕ) (pickup : Pickup) where
       by-order change end
       (λ h. pass-on point rest bar end meter at h
       ∙ pass-is rest change (max bar change) end point (ending bar change meter at) t (omega arith) (rest-on point rest bar (max bar change) meter (omega arith) (omega arith) r)
-      ∙ up-to bar change end meter at p (omega arith) (ahead end change (least change end h) (le-refl change)) stays)
+      ∙ up-to bar change end meter at p (omega arith) (rest-next point rest low bar meter s r end change (least change end h) (le-refl change)) (rest-meter point rest low bar meter s r))
       (λ h. pass-past point rest bar end meter at h
-      ∙ last-bars bar end meter at p (λ l. ahead end end (most change end h) h (omega arith)) (λ l. stays (omega arith)))
+      ∙ last-bars bar end meter at p (λ l. rest-next point rest low bar meter s r end end (most change end h) h (omega arith))
+      (λ l. rest-meter point rest low bar meter s r (omega arith)))
     where
-      ahead : (end n : ℕ) → min (point .bar) end ≡ n → n ≤ point .bar → bar < point .bar → nextChange map bar end ≡ n
-      ahead end n e h k =
-          r .changes bar end (le-refl bar)
-          ∙ ap (nextChange rest bar) (nearer-above (point .bar) bar end k ∙ e)
-          ∙ next-ahead rest (point .bar) bar n (rest-ascends point rest low s) k h
-
-      stays : bar < point .bar → meterAt map default bar ≡ meter
-      stays k = r .meters bar (le-refl bar) ∙ ap (lastAt rest bar) (later-out point bar meter k) ∙ last-ahead rest (point .bar) bar meter (rest-ascends point rest low s) k
-
       least : (x y : ℕ) → x < y → min x y ≡ x
       least x y g = omega arith
 
@@ -171,7 +179,7 @@ ascends-lower [] low high h s = refl
 ascends-lower (point ∷ rest) low high h s =
     ap (λ (t : Bool). t && ascends (point .bar) rest) (le-leb low (point .bar) (le-trans h (low-le point rest high s))) ∙ rest-ascends point rest high s
 
-from-ascends : (map : List MeterPoint) (low : ℕ) → soundFrom low map ≡ true → ascends low map ≡ true
+pub from-ascends : (map : List MeterPoint) (low : ℕ) → soundFrom low map ≡ true → ascends low map ≡ true
 unfolding ascends soundFrom
 from-ascends [] low s = refl
 from-ascends (point ∷ rest) low s =

@@ -1,0 +1,10 @@
+pub mod Sounding
+pub mod Walking
+pub mod Parts
+pub mod Readings
+pub mod Odd
+pub mod Segments
+pub mod Exactly
+pub mod Keeping
+pub mod Holds
+pub mod Laws

@@ -1,0 +1,48 @@
+-- 3, 4 and 1 are tested in this order, and then the answer is the decision.
+use mathlib.Core.Path.{sym, ap, _∙_}
+use borrow.Author.Tests.{not-true, not-false}
+use borrow.Author.Needs.{needs}
+use Rattle.numbers.specs.Answers.{accepted}
+use Rattle.meter.proofs.Laws.{uneven, too-long, unsound, passed}
+use Rattle.fits.proofs.fits.Statement.{statement}
+use Rattle.fits.proofs.fits.Tie as tie
+
+returns : tie.Need-returns
+returns c = let s = c .before .before in uneven (s .args .words .now) _ (c .if1 .taken)
+
+returns-2 : tie.Need-returns-2
+returns-2 c = let s = c .before .before .before in too-long (s .args .words .now) _ (c .before .if1 .left) (c .if2 .taken)
+
+is-sound-requires : tie.Need-is-sound-requires
+is-sound-requires c κs = search needs
+
+returns-3 : tie.Need-returns-3
+returns-3 c =
+    let t = c .before .before in
+    let s = t .before .before .before in
+    unsound (s .args .words .now) (s .args .pickup) _ (t .before .if1 .left) (t .if2 .left) (sym (c .before .is-sound .ensures) ∙ not-true _ (c .if3 .taken))
+
+decide-requires : tie.Need-decide-requires
+decide-requires c κs = sym (c .before .is-sound .ensures) ∙ not-false _ (c .if3 .left)
+
+returns-4 : tie.Need-returns-4
+returns-4 c =
+    let d = c .before in
+    let p = d .before .before in
+    let t = p .before in
+    let s = t .before .before .before in
+    ap accepted (sym (c .if4 .taken) ∙ d .decide .ensures)
+    ∙ passed (s .args .words .now) (s .args .pickup) _ (t .before .if1 .left) (t .if2 .left) (sym (p .is-sound .ensures) ∙ not-false _ (d .before .if3 .left))
+
+returns-5 : tie.Need-returns-5
+returns-5 c =
+    let d = c .before in
+    let p = d .before .before in
+    let t = p .before in
+    let s = t .before .before .before in
+    ap accepted (sym (c .if4 .left) ∙ d .decide .ensures)
+    ∙ passed (s .args .words .now) (s .args .pickup) _ (t .before .if1 .left) (t .if2 .left) (sym (p .is-sound .ensures) ∙ not-false _ (d .before .if3 .left))
+
+pub fits-spec : {M : Type 1} → statement M
+fits-spec =
+    tie.close (tie.spec returns returns-2 is-sound-requires returns-3 decide-requires returns-4 returns-5)

@@ -1,0 +1,108 @@
+-- The loop keeps that the points that are left are sound from the last bar on exactly where the whole map is.
+use mathlib.Core.Path.{_≡_, refl, sym, _∙_}
+use Prim.Native.Nat.{_≤_, _-_}
+use native.Mathlib.Omega.{arith}
+use lib.ListN.{length}
+use borrow.Author.Tests.{not-true, not-false}
+use borrow.Author.Needs.{needs}
+use Rattle.meter.specs.Meters.{pointsOf}
+use Rattle.meter.specs.Fits.{soundFrom}
+use Rattle.meter.proofs.Laws.{left}
+use Rattle.fits.proofs.Sounding.{sound-end, sound-not, sound-again}
+use Rattle.fits.proofs.sound.points.Statement.{statement}
+use Rattle.fits.proofs.sound.points.Tie as tie
+
+abbrev Inv-loop : tie.InvT-loop
+Inv-loop words low₀ i₀ low i = (i ≤ length words) × (soundFrom low (left words i) ≡ soundFrom 0 (pointsOf words))
+
+abbrev μ-loop : tie.MeasureT-loop
+μ-loop words low₀ i₀ low i = length words - i
+
+loop-holds : tie.Need-loop-holds Inv-loop μ-loop
+loop-holds c = (omega arith, refl)
+
+add-loop : tie.Need-add-loop Inv-loop μ-loop
+add-loop c = search needs
+
+mul-bar : tie.Need-mul-bar Inv-loop μ-loop
+mul-bar c = search needs
+
+shared-slice-read-bar : tie.Need-shared-slice-read-bar Inv-loop μ-loop
+shared-slice-read-bar c = search needs
+
+add-point : tie.Need-add-point Inv-loop μ-loop
+add-point c = search needs
+
+mul-point : tie.Need-mul-point Inv-loop μ-loop
+mul-point c = search needs
+
+shared-slice-read-point : tie.Need-shared-slice-read-point Inv-loop μ-loop
+shared-slice-read-point c = search needs
+
+add-point-2 : tie.Need-add-point-2 Inv-loop μ-loop
+add-point-2 c = search needs
+
+mul-point-2 : tie.Need-mul-point-2 Inv-loop μ-loop
+mul-point-2 c = search needs
+
+shared-slice-read-point-2 : tie.Need-shared-slice-read-point-2 Inv-loop μ-loop
+shared-slice-read-point-2 c = search needs
+
+point-requires : tie.Need-point-requires Inv-loop μ-loop
+point-requires c κs = search needs
+
+returns : tie.Need-returns Inv-loop μ-loop
+returns c =
+    let p = c .before in
+    let l = p .before .before .before .before .before in
+    sound-not _ (l .loop .i) (l .loop .low) (p .before .before .before .before .loop-test .taken) (sym (p .point .ensures) ∙ not-true _ (c .if1 .taken)) ∙ l .loop .inv .1
+
+cast-low : tie.Need-cast-low Inv-loop μ-loop
+cast-low c = let w = c .before .before .before .before in omega (arith, w .shared-slice-known2 .given (w .before .before .loop .i))
+
+add-low : tie.Need-add-low Inv-loop μ-loop
+add-low c = let w = c .before .before .before .before in omega (arith, w .shared-slice-known2 .given (w .before .before .loop .i))
+
+add-i : tie.Need-add-i Inv-loop μ-loop
+add-i c = search needs
+
+loop-less : tie.Need-loop-less Inv-loop μ-loop
+loop-less c = search needs
+
+loop-again : tie.Need-loop-again Inv-loop μ-loop
+loop-again c =
+    let p = c .before in
+    let l = p .before .before .before .before .before in (
+      omega arith,
+      sound-again _ (l .loop .i) (l .loop .low) (p .before .before .before .before .loop-test .taken) (sym (p .point .ensures) ∙ not-false _ (c .if1 .left)) ∙ l .loop .inv .1,
+    )
+
+returns-2 : tie.Need-returns-2 Inv-loop μ-loop
+returns-2 c =
+    let l = c .before in
+    sound-end _ (l .loop .i) (l .loop .low) (c .loop-test .left) ∙ l .loop .inv .1
+
+pub points-spec : {M : Type 1} → statement M
+points-spec =
+    tie.close
+    (tie.spec
+    Inv-loop
+    μ-loop
+    loop-holds
+    add-loop
+    mul-bar
+    shared-slice-read-bar
+    add-point
+    mul-point
+    shared-slice-read-point
+    add-point-2
+    mul-point-2
+    shared-slice-read-point-2
+    point-requires
+    returns
+    cast-low
+    add-low
+    add-i
+    loop-less
+    loop-again
+    returns-2)

@@ -1,0 +1,39 @@
+-- The parts' contracts, one inside the other.
+use mathlib.Core.Path.{ap, _∙_}
+use borrow.Author.Needs.{needs}
+use Rattle.beats.specs.Sums.{addBeats}
+use Rattle.meter.specs.Meters.{fallback}
+use Rattle.meter.specs.Fits.{isAccepted}
+use Rattle.fits.specs.Decision.{walked, walkFits}
+use Rattle.fits.proofs.walk.passes.Statement.{statement}
+use Rattle.fits.proofs.walk.passes.Tie as tie
+
+zero-requires : tie.Need-zero-requires
+zero-requires c κs = search needs
+
+length-requires : tie.Need-length-requires
+length-requires c κs = search needs
+
+add-requires : tie.Need-add-requires
+add-requires c κs = search needs
+
+last-start-requires : tie.Need-last-start-requires
+last-start-requires c κs = search needs
+
+done-requires : tie.Need-done-requires
+done-requires c κs = search needs
+
+returns : tie.Need-returns
+unfolding walkFits
+returns c =
+    let w = c .before in
+    let a = w .before in
+    let l = a .before in
+    c .done .ensures
+    ∙ ap isAccepted (w .last-start .ensures
+    ∙ ap (walked _ 1 (fallback _)) (a .add .ensures ∙ (λ i. addBeats (l .before .zero .ensures i) (l .length .ensures i))))
+
+pub passes-spec : {M : Type 1} → statement M
+passes-spec =
+    tie.close
+    (tie.spec zero-requires length-requires add-requires last-start-requires done-requires returns)
