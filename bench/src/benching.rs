@@ -17,7 +17,8 @@ fn next(x: u64) -> u64 {
     b ^ (b << 17)
 }
 
-fn mixed(sum: u64, answer: u64) -> u64 {
+/// The checksum of the answers so far and of one more.
+pub fn mixed(sum: u64, answer: u64) -> u64 {
     sum.rotate_left(5).wrapping_add(answer)
 }
 

@@ -2,6 +2,8 @@
 //! A layer is a module with the same rows, over the same inputs.
 
 mod benching;
+mod cues;
+mod filler;
 mod meter;
 mod pattern;
 mod tempo;
@@ -23,6 +25,8 @@ fn main() {
         "tempo" => tempo::rows(&asked),
         "transport" => transport::rows(&asked),
         "pattern" => pattern::rows(&asked),
+        "cues" => cues::rows(&asked),
+        "filler" => filler::rows(&asked),
         _ => {
             eprintln!("twin: no layer {layer}");
             std::process::exit(2);

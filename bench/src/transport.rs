@@ -10,7 +10,7 @@ use tono_core::runtime::transport::{Advance, Transport};
 use tono_core::units::{Beat, MeterPoint};
 
 /// A transport that plays from frame 0.
-fn clock(pickup: Option<Beat>, meter: &[MeterPoint], tempo: &[TempoPoint]) -> Transport {
+pub fn clock(pickup: Option<Beat>, meter: &[MeterPoint], tempo: &[TempoPoint]) -> Transport {
     let mut t = access::transport(48_000, 120.0, 4, pickup, u64::MAX, meter.to_vec(), tempo.to_vec());
     t.play();
     t

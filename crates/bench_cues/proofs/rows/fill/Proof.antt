@@ -8,7 +8,7 @@ abbrev Inv-loop : tie.InvT-loop
 Inv-loop lines₀ at₀ k₀ lines at k = Unit {0}
 
 abbrev μ-loop : tie.MeasureT-loop
-μ-loop lines₀ at₀ k₀ lines at k = 1024 - k
+μ-loop lines₀ at₀ k₀ lines at k = 65536 - k
 
 loop-holds : tie.Need-loop-holds Inv-loop μ-loop
 loop-holds c = search needs

@@ -1,22 +1,24 @@
--- The walk keeps that what is left, behind the line before, ascends just when all of the lines do.
+-- The walk keeps that all lines ascend just when no fall is counted so far and what is left, behind the line before, ascends.
 use borrow.Author.Needs.{needs}
 use mathlib.Core.Path.{_≡_, refl, sym, _∙_}
+use mathlib.Core.Bool.{_&&_}
 use Prim.Native.Nat.{_≤_, _-_}
 use native.Mathlib.Omega.{arith}
+use lib.Dec.{eqb}
 use lib.ListN.{length, drop}
 use Rattle.lines.specs.Lines.{ascendsFrom, ascends}
-use Rattle.lines.proofs.Order.{descends, goes-on, ended}
+use Rattle.lines.proofs.Order.{one-more, ended}
 use Rattle.lines.proofs.range.ascending.Statement.{statement}
 use Rattle.lines.proofs.range.ascending.Tie as tie
 
 abbrev Inv-loop : tie.InvT-loop
-Inv-loop lines low₀ place₀ low place = (place ≤ length lines) × (ascendsFrom low (drop place lines) ≡ ascends lines)
+Inv-loop lines low₀ falls₀ place₀ low falls place = (place ≤ length lines) × ((falls ≤ place) × (eqb falls 0 && ascendsFrom low (drop place lines) ≡ ascends lines))
 
 abbrev μ-loop : tie.MeasureT-loop
-μ-loop lines low₀ place₀ low place = length lines - place
+μ-loop lines low₀ falls₀ place₀ low falls place = length lines - place
 
 loop-holds : tie.Need-loop-holds Inv-loop μ-loop
-loop-holds c = (omega arith, refl)
+loop-holds c = (omega arith, (omega arith, refl))
 
 mul-line : tie.Need-mul-line Inv-loop μ-loop
 mul-line c = search needs
@@ -24,10 +26,11 @@ mul-line c = search needs
 shared-slice-read-line : tie.Need-shared-slice-read-line Inv-loop μ-loop
 shared-slice-read-line c = search needs
 
-returns : tie.Need-returns Inv-loop μ-loop
-returns c =
-    let l = c .before .before .before in
-    sym (sym (l .loop .inv .1) ∙ descends (l .before .args .lines .now) _ _ (search needs) (c .if1 .taken))
+fall-requires : tie.Need-fall-requires Inv-loop μ-loop
+fall-requires c κs = search needs
+
+add-falls : tie.Need-add-falls Inv-loop μ-loop
+add-falls c = search needs
 
 add-place : tie.Need-add-place Inv-loop μ-loop
 add-place c = search needs
@@ -37,13 +40,14 @@ loop-less c = search needs
 
 loop-again : tie.Need-loop-again Inv-loop μ-loop
 loop-again c =
-    let l = c .before .before .before in
-    (omega arith, goes-on (l .before .args .lines .now) _ _ (search needs) (c .if1 .left) ∙ l .loop .inv .1)
+    let l = c .before .before .before .loop in
+    let a = c .before .before .before .before .before .args in
+    (omega arith, (omega arith, one-more (a .lines .now) (l .low) (l .place) (l .falls) (c .fall .result) (search needs) (c .fall .ensures .0) ∙ l .inv .1 .1))
 
-returns-2 : tie.Need-returns-2 Inv-loop μ-loop
-returns-2 c =
-    let l = c .before in
-    sym (sym (l .loop .inv .1) ∙ ended (l .before .args .lines .now) _ _ (c .loop-test .left))
+returns : tie.Need-returns Inv-loop μ-loop
+returns c =
+    let l = c .before .loop in
+    sym (ended (c .before .before .before .args .lines .now) (l .low) (l .place) (l .falls) (c .loop-test .left)) ∙ l .inv .1 .1
 
 pub ascending-spec : {M : Type 1} → statement M
 ascending-spec =
@@ -54,8 +58,9 @@ ascending-spec =
     loop-holds
     mul-line
     shared-slice-read-line
-    returns
+    fall-requires
+    add-falls
     add-place
     loop-less
     loop-again
-    returns-2)
+    returns)
