@@ -5,6 +5,9 @@ pub mod Parts
 pub mod Sorted
 pub mod Stable
 pub mod Merging
-pub mod Halves
+pub mod Choosing
+pub mod Inserting
+pub mod Quarters
+pub mod FourParts
 pub mod Whole
 pub mod Laws
