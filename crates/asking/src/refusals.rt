@@ -1,5 +1,5 @@
-// The numbers of document 01's refusals, as an answer line has them. A score file's, 13, is asked by
-// no question.
+// The numbers of document 01's refusals, as an answer line has them. That of a score file, 13, stands in
+// the program that asks for sheets.
 pub const NOT_BEAT: u64 = 1;
 
 pub const OVERFLOW: u64 = 2;

@@ -1,7 +1,7 @@
 //! What a question asks: its words taken apart by the kinds of its op. A question that has words too few or too many, a
 //! state above 2, a flag above 1, or a list or an output that is larger than the form's limits is none.
 
-use crate::form::{Kind, MOST_LIST, MOST_ROOM, Op};
+use crate::form::{Kind, MOST_FILE, MOST_LIST, MOST_ROOM, Op};
 use tono_core::units::Beat;
 
 #[derive(Debug, Clone)]
@@ -21,6 +21,7 @@ pub enum Arg {
     Lines(Vec<u64>),
     Tempo(Tempo),
     Transport(Transport),
+    File(Vec<u8>),
 }
 
 /// A tempo map: three lists, which need not be of one length to be asked.
@@ -116,6 +117,14 @@ impl Rest<'_> {
         Some(Transport { rate, bpm, beats_per_bar, length, position, state, looped: on.then_some(ends), pickup })
     }
 
+    /// The bytes of the last word behind the file's end count for nothing.
+    fn file(&mut self) -> Option<Vec<u8>> {
+        let count = self.u32()? as usize;
+        let words = self.words(count.div_ceil(4), MOST_FILE.div_ceil(4))?;
+        let bytes = words.iter().flat_map(|word| word.to_le_bytes()).take(count);
+        (count <= MOST_FILE).then(|| bytes.collect())
+    }
+
     fn arg(&mut self, kind: Kind) -> Option<Arg> {
         Some(match kind {
             Kind::U32 => Arg::U32(self.u32()?),
@@ -135,6 +144,7 @@ impl Rest<'_> {
             Kind::Lines => Arg::Lines(self.longs()?),
             Kind::Tempo => Arg::Tempo(self.tempo()?),
             Kind::Transport => Arg::Transport(self.transport()?),
+            Kind::File => Arg::File(self.file()?),
         })
     }
 }
@@ -202,6 +212,11 @@ impl Args {
 
     pub fn transport(&self, k: usize) -> &Transport {
         let Arg::Transport(x) = &self.0[k] else { panic!("argument {k} is no Transport") };
+        x
+    }
+
+    pub fn file(&self, k: usize) -> &[u8] {
+        let Arg::File(x) = &self.0[k] else { panic!("argument {k} is no file") };
         x
     }
 

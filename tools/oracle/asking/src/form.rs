@@ -8,6 +8,8 @@ pub const MOST_WORDS: usize = 262_400;
 pub const MOST_LIST: usize = 65_537;
 /// The most elements of a lent output.
 pub const MOST_ROOM: usize = 65_540;
+/// The most bytes of a file.
+pub const MOST_FILE: usize = 65_536;
 /// What element 0 of a lent output is before the call; element k is this and k.
 pub const MARK: u64 = 0xA500_0000;
 
@@ -34,6 +36,8 @@ pub enum Kind {
     /// A tempo map, as three lists.
     Tempo,
     Transport,
+    /// A count of bytes, and the bytes, four a word.
+    File,
 }
 
 #[derive(Debug)]
@@ -131,6 +135,7 @@ pub const OPS: &[Op] = &[
         &[("pulses", U32), ("steps", U32), ("tag", U32), ("len", U32), ("steps_per_bar", U32), ("room", Room)],
     ),
     op(0x6b, "tuplet", &[("count", U32), ("in_steps", U32), ("tag", U32), ("len", U32), ("room", Room)]),
+    op(0x70, "sheet", &[("file", File)]),
 ];
 
 pub fn find(number: u32) -> Option<&'static Op> {

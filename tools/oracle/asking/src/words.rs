@@ -41,7 +41,15 @@ fn tell_arg(arg: &Arg) -> String {
         Arg::Lines(x) => list(x, |w| w.to_string()),
         Arg::Tempo(x) => tempo(x),
         Arg::Transport(x) => transport(x),
+        Arg::File(x) => file(x),
     }
+}
+
+/// The bytes of a file as words, and what is left behind the last whole one.
+fn file(bytes: &[u8]) -> String {
+    let chunks: Vec<&[u8]> = bytes.chunks(4).collect();
+    let told = list(&chunks, |chunk| chunk.iter().rev().map(|byte| format!("{byte:02x}")).collect());
+    format!("{} bytes {told}", bytes.len())
 }
 
 fn single(bits: u32) -> String {

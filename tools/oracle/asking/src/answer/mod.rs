@@ -6,6 +6,7 @@ pub(crate) mod maps;
 mod meter;
 mod pattern;
 mod problems;
+mod score;
 mod tempo;
 pub(crate) mod transport;
 
@@ -32,7 +33,7 @@ pub fn answer(number: u32, words: &[u32], out: &mut Vec<u8>) {
     }
 }
 
-fn call(op: &Op, args: &Args, lent: &mut [u64]) -> Answer {
+fn call(op: &Op, args: &Args, lent: &mut Vec<u64>) -> Answer {
     match op.number {
         number @ 0x01..=0x09 => beats::call(number, args),
         number @ 0x10..=0x13 => meter::call(number, args),
@@ -45,6 +46,7 @@ fn call(op: &Op, args: &Args, lent: &mut [u64]) -> Answer {
         0x51 => cues::fill(args, lent),
         0x52 => cues::range(args),
         number @ 0x60..=0x6b => pattern::call(number, args, lent),
+        0x70 => score::sheet(args, lent),
         number => unreachable!("op {number:02x}"),
     }
 }

@@ -29,7 +29,7 @@ fn index_of(op: &Op, wanted: Kind) -> Option<usize> {
             Kind::Beat => 3,
             Kind::Pickup => 4,
             Kind::Transport => 17,
-            Kind::Meter | Kind::Points | Kind::Notes | Kind::Lines | Kind::Tempo => return None,
+            Kind::Meter | Kind::Points | Kind::Notes | Kind::Lines | Kind::Tempo | Kind::File => return None,
         };
     }
     None
@@ -62,11 +62,13 @@ pub fn question(op: &Op, mut words: Vec<u32>, turn: u64, r: &mut Rng) -> Vec<u32
         7 => spoil(index_of(op, Kind::Room), 65_541),
         8 => spoil(index_of(op, Kind::Room), u32::MAX),
         9 => {
-            let list = [Kind::Meter, Kind::Points, Kind::Notes, Kind::Lines, Kind::Tempo]
+            let list = [Kind::Meter, Kind::Points, Kind::Notes, Kind::Lines, Kind::Tempo, Kind::File]
                 .into_iter()
                 .find_map(|kind| index_of(op, kind));
             let count = list.map_or(0, |at| words[at]);
-            let off = if r.once_in(2) { count.wrapping_add(1) } else { u32::MAX - r.below(2) as u32 };
+            // a byte more of a file may still be in its last word
+            let one = if index_of(op, Kind::File).is_some() { 4 } else { 1 };
+            let off = if r.once_in(2) { count.wrapping_add(one) } else { u32::MAX - r.below(2) as u32 };
             match list {
                 Some(at) => words[at] = off,
                 None => words.truncate(1),

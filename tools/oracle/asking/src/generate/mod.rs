@@ -10,6 +10,8 @@ mod maps;
 mod meter;
 mod pattern;
 mod rng;
+mod score;
+mod scores;
 mod tempo;
 mod transport;
 pub mod write;
@@ -50,6 +52,7 @@ pub fn question(seed: u64, op: &Op, place: u64) -> Vec<u32> {
         number @ (0x30 | 0x31) => transport::make(number, &mut r),
         number @ 0x32..=0x46 => transport::question(number, &mut r, size),
         number @ 0x50..=0x52 => cues::question(number, &mut r, size),
+        0x70 => score::question(place, &mut r),
         number => pattern::question(number, &mut r, size),
     }
     .0;

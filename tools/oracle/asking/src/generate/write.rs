@@ -47,6 +47,17 @@ impl Asked {
         self.longs(tempo.nums.iter().map(|n| *n as u64)).words(&tempo.dens).words(&tempo.bpms)
     }
 
+    /// The count of the bytes, and the bytes, four a word; behind the end any bytes.
+    pub fn file(mut self, bytes: &[u8]) -> Asked {
+        self.0.push(bytes.len() as u32);
+        self.0.extend(bytes.chunks(4).map(|chunk| {
+            let mut four = [0xa5; 4];
+            four[..chunk.len()].copy_from_slice(chunk);
+            u32::from_le_bytes(four)
+        }));
+        self
+    }
+
     /// Of a loop that is off the two frames count for nothing, so they are any.
     pub fn transport(self, t: &Transport) -> Asked {
         let (start, end) = t.looped.unwrap_or((9, 3));
