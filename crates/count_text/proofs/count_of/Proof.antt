@@ -1,0 +1,62 @@
+-- Other bytes are refused; a score file's answer is that of what was read.
+use mathlib.Core.Path.{_≡_, sym, ap, _∙_}
+use native.Mathlib.Omega.{arith}
+use borrow.Author.Needs.{needs}
+use Rattle.score.specs.Readings.{readScore}
+use Rattle.text.proofs.Laws.{retext}
+use Rattle.count_text.proofs.Files.{counted, refusal-is, meters-few, pickup-sound, file-is}
+use Rattle.count_text.proofs.count_of.Statement.{statement}
+use Rattle.count_text.proofs.count_of.Tie as tie
+
+read-score-requires : tie.Need-read-score-requires
+read-score-requires c κs = search needs
+
+enum-told : tie.Need-enum-told
+enum-told c = search needs
+
+slice-aggregate-bytes : tie.Need-slice-aggregate-bytes
+slice-aggregate-bytes c = search needs
+
+bytes-requires : tie.Need-bytes-requires
+bytes-requires c κs = search needs
+
+enum-known-score : tie.Need-enum-known-score
+enum-known-score c = search needs
+
+asked-requires : tie.Need-asked-requires
+asked-requires c κs =
+    let bound = c .before .before .before in
+    let read = bound .before .before in
+    let e = sym (ap readScore (bound .score .given .1)) ∙ read .read-score .ensures .0 in
+    (omega arith, meters-few _ _ e, pickup-sound _ _ e)
+
+returns : tie.Need-returns
+returns c =
+    let told = c .before .before .before in
+    let read = told .before .before in
+    let e = sym (ap readScore (told .enum-told .given .1)) ∙ read .read-score .ensures .0 in
+    let s = c .before .before .before .before .before .before .before .before .before .before .before .before .args in
+    let put = retext (refusal-is (s .file .now) (s .word .now) e) (c .bytes .ensures) in
+    (put, counted put (omega (arith, put .next-is)))
+
+returns-2 : tie.Need-returns-2
+returns-2 c =
+    let bound = c .before .before .before .before in
+    let read = bound .before .before .read-score in
+    let e = sym (ap readScore (bound .score .given .1)) ∙ read .ensures .0 in
+    let s = c .before .before .before .before .before .before .before .before .before .before .before .before .before .args in
+    let put = retext (file-is (s .file .now) (s .word .now) _ e _ (read .ensures .1)) (c .asked .ensures .0) in
+    (put, counted put (omega (arith, c .asked .ensures .1)))
+
+pub count-of-spec : {M : Type 1} → statement M
+count-of-spec =
+    tie.close
+    (tie.spec
+    read-score-requires
+    enum-told
+    slice-aggregate-bytes
+    bytes-requires
+    enum-known-score
+    asked-requires
+    returns
+    returns-2)

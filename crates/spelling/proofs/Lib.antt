@@ -1,0 +1,6 @@
+pub mod Reading
+pub mod Marks
+pub mod Ratios
+pub mod Tempos
+pub mod Back
+pub mod Laws
