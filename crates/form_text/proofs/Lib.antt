@@ -1,0 +1,5 @@
+pub mod Digits
+pub mod Rows
+pub mod Files
+pub mod Example
+pub mod Laws

@@ -1,0 +1,2 @@
+pub mod TempoTexts
+pub mod Forms

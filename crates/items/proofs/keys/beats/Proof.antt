@@ -1,0 +1,26 @@
+-- By the one number behind the key.
+use mathlib.Core.Path.{_≡_, refl, sym, ap, _∙_, subst}
+use borrow.Author.Needs.{needs}
+use Rattle.items.specs.Items.{beatsItem}
+use Rattle.items.proofs.keys.beats.Statement.{statement}
+use Rattle.items.proofs.keys.beats.Tie as tie
+
+sole-requires : tie.Need-sole-requires
+sole-requires c κs = search needs
+
+enum-known-reason : tie.Need-enum-known-reason
+enum-known-reason c = search needs
+
+enum-known-n : tie.Need-enum-known-n
+enum-known-n c = search needs
+
+returns : tie.Need-returns
+unfolding beatsItem
+returns c = ap beatsItem (sym (c .before .reason .given .1) ∙ c .before .before .before .sole .ensures)
+
+returns-2 : tie.Need-returns-2
+unfolding beatsItem
+returns-2 c = ap beatsItem (sym (c .before .n .given .1) ∙ c .before .before .before .sole .ensures)
+
+pub beats-spec : {M : Type 1} → statement M
+beats-spec = tie.close (tie.spec sole-requires enum-known-reason enum-known-n returns returns-2)

@@ -1,0 +1,58 @@
+-- A bad beat is told first, then a bad tempo.
+use mathlib.Core.Path.{_≡_, refl, sym, ap, _∙_, subst}
+use borrow.Author.Needs.{needs}
+use Rattle.items.proofs.Tests.{point-is}
+use Rattle.items.specs.Items.{pointBy, tempoValue}
+use Rattle.spelling.specs.Words.{tempoOf}
+use Rattle.items.proofs.keys.point.Statement.{statement}
+use Rattle.items.proofs.keys.point.Tie as tie
+
+beat-requires : tie.Need-beat-requires
+beat-requires c κs = search needs
+
+enum-known-reason : tie.Need-enum-known-reason
+enum-known-reason c = search needs
+
+enum-known-beat : tie.Need-enum-known-beat
+enum-known-beat c = search needs
+
+tempo-requires : tie.Need-tempo-requires
+tempo-requires c κs = search needs
+
+enum-known-reason-2 : tie.Need-enum-known-reason-2
+enum-known-reason-2 c = search needs
+
+enum-known-bits : tie.Need-enum-known-bits
+enum-known-bits c = search needs
+
+returns : tie.Need-returns
+unfolding pointBy
+returns c = point-is _ (c .before .before .before .before .before .before .args .word .now) (sym (c .before .reason .given .1) ∙ c .before .before .before .beat .ensures) refl
+
+returns-2 : tie.Need-returns-2
+unfolding pointBy
+returns-2 c =
+    point-is _ _ (sym (c .before .before .before .before .before .beat2 .given .1)
+    ∙ c .before .before .before .before .before .before .before .beat .ensures) (sym (c .before .reason2 .given .1)
+    ∙ c .before .before .before .tempo .ensures)
+
+returns-3 : tie.Need-returns-3
+unfolding pointBy
+returns-3 c =
+    point-is _ _ (sym (c .before .before .before .before .before .beat2 .given .1)
+    ∙ c .before .before .before .before .before .before .before .beat .ensures) (sym (c .before .bits .given .1)
+    ∙ c .before .before .before .tempo .ensures)
+
+pub point-spec : {M : Type 1} → statement M
+point-spec =
+    tie.close
+    (tie.spec
+    beat-requires
+    enum-known-reason
+    enum-known-beat
+    tempo-requires
+    enum-known-reason-2
+    enum-known-bits
+    returns
+    returns-2
+    returns-3)

@@ -1,0 +1,26 @@
+-- By what the word says.
+use mathlib.Core.Path.{_≡_, refl, sym, ap, _∙_, subst}
+use borrow.Author.Needs.{needs}
+use Rattle.items.specs.Items.{numberValue}
+use Rattle.items.proofs.values.number.Statement.{statement}
+use Rattle.items.proofs.values.number.Tie as tie
+
+number-requires : tie.Need-number-requires
+number-requires c κs = search needs
+
+enum-known-n : tie.Need-enum-known-n
+enum-known-n c = search needs
+
+enum-told : tie.Need-enum-told
+enum-told c = search needs
+
+returns : tie.Need-returns
+unfolding numberValue
+returns c = ap numberValue (sym (c .before .n .given .1) ∙ c .before .before .before .number .ensures)
+
+returns-2 : tie.Need-returns-2
+unfolding numberValue
+returns-2 c = ap numberValue (sym (c .enum-told .given .1) ∙ c .before .before .number .ensures)
+
+pub number-spec : {M : Type 1} → statement M
+number-spec = tie.close (tie.spec number-requires enum-known-n enum-told returns returns-2)

@@ -1,0 +1,9 @@
+pub mod Putting
+pub mod Outcomes
+pub mod Readings
+pub mod Places
+pub mod Headers
+pub mod Back
+pub mod Again
+pub mod Accepted
+pub mod Laws

@@ -1,0 +1,65 @@
+-- The bytes of the file that says a score: a list of 32-bit words, each as four bytes, the lowest first.
+use mathlib.Core.List.{List, [], _∷_, _++_}
+use Prim.Native.Nat.{ℕ, _+_, _-_, _*_, _/_, _%_}
+use lib.IntN.{ℤ, pos, negsuc}
+use Rattle.beats.specs.declared.Beat.{Beat}
+use Rattle.meter.specs.declared.Pickup.{Pickup}
+use Rattle.meter.specs.Meters.{pickupOr}
+use Rattle.score.specs.declared.Score.{Score}
+
+-- ---- words as bytes
+
+unfoldable pub wordBytes : ℕ → List ℕ
+wordBytes word = (word % 256) ∷ (word / 256 % 256) ∷ (word / 65536 % 256) ∷ (word / 16777216 % 256) ∷ []
+
+unfoldable pub wordsBytes : List ℕ → List ℕ
+wordsBytes [] = []
+wordsBytes (word ∷ words) = wordBytes word ++ wordsBytes words
+
+-- ---- numbers as two words
+
+-- the 64 bits of a number in two's complement. (negsuc n is -(n + 1).)
+unfoldable pub bitsOf : ℤ → ℕ
+bitsOf (pos n) = n
+bitsOf (negsuc n) = 18446744073709551615 - n
+
+abbrev pub low : ℤ → ℕ
+low num = bitsOf num % 4294967296
+
+abbrev pub high : ℤ → ℕ
+high num = bitsOf num / 4294967296
+
+-- ---- the parts of a file
+
+-- the pickup that the header has, 0/0 where there is none
+abbrev pub pickupBeat : Pickup → Beat
+pickupBeat pickup = pickupOr pickup (record { num = pos 0; den = 0 })
+
+-- where the tempo points begin, and where they end, for so many points
+abbrev pub tempoOffsetFor : ℕ → ℕ
+tempoOffsetFor meters = 48 + 12 * meters
+
+abbrev pub totalFor : ℕ → ℕ → ℕ
+totalFor meters tempos = 48 + 12 * meters + 16 * tempos
+
+-- edition 1, rate, beats per bar, bpm bits; pickup denominator, numerator low and high; meter count and offset, tempo count and offset, total bytes
+unfoldable pub headerWords : Score → List ℕ
+headerWords score =
+    1 ∷ score .rate ∷ score .beats ∷ score .bpm ∷
+    pickupBeat (score .pickup) .den ∷ low (pickupBeat (score .pickup) .num) ∷ high (pickupBeat (score .pickup) .num) ∷
+    score .meters ∷ 48 ∷ score .tempos ∷ tempoOffsetFor (score .meters) ∷ totalFor (score .meters) (score .tempos) ∷ []
+
+-- a tempo point: numerator low and high, denominator, bpm bits
+unfoldable pub pointWords : ℤ → ℕ → ℕ → List ℕ
+pointWords num den bits = low num ∷ high num ∷ den ∷ bits ∷ []
+
+-- the tempo points of three parallel lists
+unfoldable pub tempoWords : List ℤ → List ℕ → List ℕ → List ℕ
+tempoWords [] dens bits = []
+tempoWords (num ∷ nums) [] bits = []
+tempoWords (num ∷ nums) (den ∷ dens) [] = []
+tempoWords (num ∷ nums) (den ∷ dens) (bpm ∷ bits) = pointWords num den bpm ++ tempoWords nums dens bits
+
+-- the file of a score, its meter points as flat words and its tempo points
+unfoldable pub fileOf : Score → List ℕ → List ℤ → List ℕ → List ℕ → List ℕ
+fileOf score meter nums dens bits = wordsBytes (headerWords score ++ (meter ++ tempoWords nums dens bits))

@@ -1,0 +1,53 @@
+-- A run goes on with a byte of its kind and stops at any other, and never goes past the end.
+use mathlib.Core.Path.{_≡_, refl, sym, ap, _∙_}
+use mathlib.Core.Bool.{Bool, true, false}
+use mathlib.Core.List.{List, [], _∷_}
+use Prim.Native.Nat.{ℕ, zero, suc, _+_, _-_, _≤_, _<_}
+use native.Mathlib.Omega.{arith}
+use native.Mathlib.Numerals.{add-one}
+use lib.ListN.{length, take, drop, getD, length-drop}
+use lib.Seq.{drop-cons, drop-length}
+use Rattle.splits.specs.Splits.{longer, run, past}
+
+module _ (kind : ℕ → Bool) where
+  -- ---- by the byte in front
+
+  pub run-more : (byte : ℕ) (rest : List ℕ) → kind byte ≡ true → run kind (byte ∷ rest) ≡ suc (run kind rest)
+  unfolding run longer
+  run-more byte rest e = rw e
+
+  pub run-none : (byte : ℕ) (rest : List ℕ) → kind byte ≡ false → run kind (byte ∷ rest) ≡ 0
+  unfolding run longer
+  run-none byte rest e = rw e
+
+  pub run-short : (text : List ℕ) → run kind text ≤ length text
+  unfolding run longer
+  run-short [] = omega arith
+  run-short (byte ∷ rest) = go (kind byte) (run-short rest)
+    where
+      go : (b : Bool) → run kind rest ≤ length rest → longer b (run kind rest) ≤ suc (length rest)
+      go true h = omega arith
+      go false h = omega arith
+
+  -- ---- by places
+
+  module _ (text : List ℕ) where
+    pub past-more : (from : ℕ) → from < length text → kind (getD text from 0) ≡ true → past kind text (from + 1) ≡ past kind text from
+    unfolding past
+    past-more from h e =
+        let d = drop-cons text from 0 h in
+        let s : from + 1 ≡ suc from = add-one from in
+        let r : run kind (drop from text) ≡ suc (run kind (drop (suc from) text)) = ap (run kind) d ∙ run-more (getD text from 0) (drop (suc from) text) e in
+        rw s (omega arith)
+
+    pub past-stop : (from : ℕ) → from < length text → kind (getD text from 0) ≡ false → past kind text from ≡ from
+    unfolding past
+    past-stop from h e =
+        let r : run kind (drop from text) ≡ 0 = ap (run kind) (drop-cons text from 0 h) ∙ run-none (getD text from 0) (drop (suc from) text) e in
+        omega arith
+
+    pub past-end : (from : ℕ) → from ≡ length text → past kind text from ≡ from
+    unfolding past run
+    past-end from e =
+        let r : run kind (drop from text) ≡ 0 = ap (λ (k : ℕ). run kind (drop k text)) e ∙ ap (run kind) (drop-length text) in
+        omega arith
