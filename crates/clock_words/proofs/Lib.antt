@@ -1,0 +1,4 @@
+pub mod Signs
+pub mod Words
+pub mod Places
+pub mod Laws

@@ -1,0 +1,30 @@
+-- By the two flags.
+use Rattle.stand.specs.Words.{flags}
+use borrow.Author.Needs.{needs}
+use Rattle.stand.proofs.flags_of.Statement.{statement}
+use Rattle.stand.proofs.flags_of.Tie as tie
+
+returns : tie.Need-returns
+unfolding flags
+returns c = rw (c .before .if1 .taken, c .if2 .taken)
+
+returns-2 : tie.Need-returns-2
+unfolding flags
+returns-2 c = rw (c .before .if1 .taken, c .if2 .left)
+
+returns-3 : tie.Need-returns-3
+unfolding flags
+returns-3 c = rw (c .before .if1 .left, c .if3 .taken)
+
+returns-4 : tie.Need-returns-4
+unfolding flags
+returns-4 c = rw (c .before .if1 .left, c .if3 .left)
+
+pub flags-of-spec : {M : Type 1} → statement M
+flags-of-spec =
+    tie.close
+    (tie.spec
+    returns
+    returns-2
+    returns-3
+    returns-4)

@@ -1,0 +1,149 @@
+-- By the answer below: the number, the clock's words, the count and the flags; the cues are those below.
+use mathlib.Core.Path.{_≡_, sym, ap, _∙_}
+use Rattle.transport.specs.Changes.{Handed}
+use Rattle.cues.specs.CueCall.{Said}
+use Rattle.cues.specs.Readings.{readReport, readCues}
+use Rattle.stand.specs.Calls.{cued}
+use Rattle.stand.specs.Words.{saidCount, saidFlags}
+use Rattle.stand.proofs.Answers.{number-accepted, gave, clock-placed}
+use Rattle.stand.proofs.Calls.{cued-is, cues-are, nothing-cued}
+use borrow.Author.Needs.{needs}
+use Rattle.stand.proofs.pulleybale_cues.Statement.{statement}
+use Rattle.stand.proofs.pulleybale_cues.Tie as tie
+
+abbrev start : tie.After-cue → tie.Start
+start c = c .before .before .before .before .before .before
+
+answer : (c : tie.After-cue) → cued (start c .args .clock .now) (start c .args .lines .now) (start c .args .frames) (start c .args .cues .now) ≡ readCues (c .cue .result)
+answer c =
+    let a = start c .args in
+    let t = c .before .before .clock-of in
+    cued-is (a .clock .now) (t .result) (t .ensures) (a .lines .now) (a .frames) (a .cues .now) (c .cue .result) (c .cue .ensures .0)
+
+clock-of-requires : tie.Need-clock-of-requires
+clock-of-requires c κs = search needs
+
+cue-requires : tie.Need-cue-requires
+cue-requires c κs = search needs
+
+enum-known-said : tie.Need-enum-known-said
+enum-known-said c = search needs
+
+place-requires : tie.Need-place-requires
+place-requires c κs = search needs
+
+flags-of-requires : tie.Need-flags-of-requires
+flags-of-requires c κs = search needs
+
+enum-told : tie.Need-enum-told
+enum-told c = search needs
+
+enum-told-2 : tie.Need-enum-told-2
+enum-told-2 c = search needs
+
+enum-told-3 : tie.Need-enum-told-3
+enum-told-3 c = search needs
+
+enum-told-4 : tie.Need-enum-told-4
+enum-told-4 c = search needs
+
+enum-told-5 : tie.Need-enum-told-5
+enum-told-5 c = search needs
+
+same-length : tie.Need-same-length
+same-length c = search needs
+
+returns : tie.Need-returns
+returns c =
+    let told = c .before .before .before .before in
+    let r = told .before .before .before .before .before in
+    let a = start r .args in
+    let t = r .before .before .clock-of in
+    let e = answer r in
+    let said = ap (λ (h : Handed Said). h .answer) e ∙ ap readReport (told .said .given .1) in
+    let there = sym (ap (λ (h : Handed Said). h .transport) e) in
+    let clock = clock-placed (a .clock .now) (cued (a .clock .now) (a .lines .now) (a .frames) (a .cues .now)) _ _ said there (c .before .place .ensures) in
+    let cues = cues-are (a .clock .now) (t .result) (t .ensures) (a .lines .now) (a .frames) (a .cues .now) _ (r .cue .ensures .1) in
+    (number-accepted said, (clock, (cues, (gave saidCount (a .count .now) said, c .flags-of .ensures ∙ gave saidFlags (a .report .now) said))))
+
+same-length-2 : tie.Need-same-length-2
+same-length-2 c = search needs
+
+returns-2 : tie.Need-returns-2
+returns-2 c =
+    let r = c .before .before .before .before .before in
+    let a = start r .args in
+    let t = r .before .before .clock-of in
+    let cues = cues-are (a .clock .now) (t .result) (t .ensures) (a .lines .now) (a .frames) (a .cues .now) _ (r .cue .ensures .1) in
+    nothing-cued (a .clock .now) (a .lines .now) (a .frames) (a .cues .now) (a .count .now) (a .report .now) _ (r .cue .result) (answer r) (ap readReport (c .enum-told .given .1)) cues
+
+same-length-3 : tie.Need-same-length-3
+same-length-3 c = search needs
+
+returns-3 : tie.Need-returns-3
+returns-3 c =
+    let r = c .before .before .before .before .before in
+    let a = start r .args in
+    let t = r .before .before .clock-of in
+    let cues = cues-are (a .clock .now) (t .result) (t .ensures) (a .lines .now) (a .frames) (a .cues .now) _ (r .cue .ensures .1) in
+    nothing-cued (a .clock .now) (a .lines .now) (a .frames) (a .cues .now) (a .count .now) (a .report .now) _ (r .cue .result) (answer r) (ap readReport (c .enum-told2 .given .1)) cues
+
+same-length-4 : tie.Need-same-length-4
+same-length-4 c = search needs
+
+returns-4 : tie.Need-returns-4
+returns-4 c =
+    let r = c .before .before .before .before .before in
+    let a = start r .args in
+    let t = r .before .before .clock-of in
+    let cues = cues-are (a .clock .now) (t .result) (t .ensures) (a .lines .now) (a .frames) (a .cues .now) _ (r .cue .ensures .1) in
+    nothing-cued (a .clock .now) (a .lines .now) (a .frames) (a .cues .now) (a .count .now) (a .report .now) _ (r .cue .result) (answer r) (ap readReport (c .enum-told3 .given .1)) cues
+
+same-length-5 : tie.Need-same-length-5
+same-length-5 c = search needs
+
+returns-5 : tie.Need-returns-5
+returns-5 c =
+    let r = c .before .before .before .before .before in
+    let a = start r .args in
+    let t = r .before .before .clock-of in
+    let cues = cues-are (a .clock .now) (t .result) (t .ensures) (a .lines .now) (a .frames) (a .cues .now) _ (r .cue .ensures .1) in
+    nothing-cued (a .clock .now) (a .lines .now) (a .frames) (a .cues .now) (a .count .now) (a .report .now) _ (r .cue .result) (answer r) (ap readReport (c .enum-told4 .given .1)) cues
+
+same-length-6 : tie.Need-same-length-6
+same-length-6 c = search needs
+
+returns-6 : tie.Need-returns-6
+returns-6 c =
+    let r = c .before .before .before .before .before in
+    let a = start r .args in
+    let t = r .before .before .clock-of in
+    let cues = cues-are (a .clock .now) (t .result) (t .ensures) (a .lines .now) (a .frames) (a .cues .now) _ (r .cue .ensures .1) in
+    nothing-cued (a .clock .now) (a .lines .now) (a .frames) (a .cues .now) (a .count .now) (a .report .now) _ (r .cue .result) (answer r) (ap readReport (c .enum-told5 .given .1)) cues
+
+pub pulleybale-cues-spec : {M : Type 1} → statement M
+pulleybale-cues-spec =
+    tie.close
+    (tie.spec
+    clock-of-requires
+    cue-requires
+    enum-known-said
+    place-requires
+    flags-of-requires
+    enum-told
+    enum-told-2
+    enum-told-3
+    enum-told-4
+    enum-told-5
+    same-length
+    returns
+    same-length-2
+    returns-2
+    same-length-3
+    returns-3
+    same-length-4
+    returns-4
+    same-length-5
+    returns-5
+    same-length-6
+    returns-6)
