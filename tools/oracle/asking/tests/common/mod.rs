@@ -1,5 +1,7 @@
 //! Asking a question and looking at its line.
 
+#![allow(dead_code)] // each file of tests uses a part of it
+
 use asking::answer::answer;
 use asking::args::{Tempo, Transport};
 use asking::generate::write::Asked;
