@@ -87,24 +87,55 @@ fn is_room(q: &[u32], at: usize, lent: &[u64]) -> bool {
     asking::u32_at(q, at) as usize <= lent.len() && asking_clock::is_transport(q)
 }
 
-// 50: Transport, u64 frames, room, U64s lines. The line ends with the lent words as they are after
-// the call.
+// The numbers of the list at an index, in `space`.
+fn numbers_at<'a>(q: &[u32], at: usize, space: &'a mut [u64]) -> &'a mut [u64] {
+    let count = asking::u32_at(q, at) as usize;
+    let lines = asking::lend_u64s(space, count);
+    asking::u64s(asking::longs(q, at), lines);
+    lines
+}
+
+// So much room as the word at an index says, marked.
+fn room_at<'a>(q: &[u32], at: usize, space: &'a mut [u64]) -> &'a mut [u64] {
+    let room = asking::u32_at(q, at) as usize;
+    let lent = asking::lend_u64s(space, room);
+    asking::mark_u64s(lent);
+    lent
+}
+
+// The line ends with the lent words as they are after the call.
+fn end_lent(out: &mut [u8; HELD], to: &mut usize, lent: &[u64]) {
+    asking::more_u64s(out, to, lent);
+    asking::end_line(out, to);
+}
+
+fn cue_of(q: &[u32], lines: &[u64], lent: &mut [u64]) -> CueAnswer {
+    let t = asking_clock::transport_of(q);
+    let frames = asking::u64_at(q, TRANSPORT);
+    cues::cue(t, lines, frames, lent)
+}
+
+// 50: Transport, u64 frames, room, U64s lines.
 fn ask_cue(q: &[u32], space: &mut [u64], lent: &mut [u64], out: &mut [u8; HELD], to: &mut usize) {
     if asking::past_longs(q, 20) != q.len() || !is_room(q, 19, lent) {
         asking::unknown(out, to);
         return;
     }
+    let lines = numbers_at(q, 20, space);
+    let lent = room_at(q, 19, lent);
+    cue_answer(out, to, cue_of(q, lines, lent));
+    end_lent(out, to, lent);
+}
+
+// The lines of the tempo map at an index, whose numerators are given.
+fn fill_of(q: &[u32], tempo: usize, nums: &[i64], lent: &mut [u64]) -> FillAnswer {
     let t = asking_clock::transport_of(q);
-    let frames = asking::u64_at(q, TRANSPORT);
-    let room = asking::u32_at(q, 19) as usize;
-    let count = asking::u32_at(q, 20) as usize;
-    let lines = asking::lend_u64s(space, count);
-    asking::u64s(asking::longs(q, 20), lines);
-    let lent = asking::lend_u64s(lent, room);
-    asking::mark_u64s(lent);
-    cue_answer(out, to, cues::cue(t, lines, frames, lent));
-    asking::more_u64s(out, to, lent);
-    asking::end_line(out, to);
+    let dens = asking::past_longs(q, tempo);
+    let tempos = asking::past_words(q, dens, LIST);
+    let words = asking::words(q, 18);
+    let dens = asking::words(q, dens);
+    let tempos = asking::words(q, tempos);
+    filler::fill_lines(t, words, nums, dens, tempos, lent)
 }
 
 // 51: Transport, room, meter, Tempo. The numerators are copied into `space`.
@@ -114,25 +145,12 @@ fn ask_fill(q: &[u32], space: &mut [i64], lent: &mut [u64], out: &mut [u8; HELD]
         asking::unknown(out, to);
         return;
     }
-    let t = asking_clock::transport_of(q);
-    let room = asking::u32_at(q, TRANSPORT) as usize;
     let count = asking::u32_at(q, tempo) as usize;
-    let dens = asking::past_longs(q, tempo);
-    let tempos = asking::past_words(q, dens, LIST);
     let nums = asking::lend_i64s(space, count);
     asking::i64s(asking::longs(q, tempo), nums);
-    let words = asking::words(q, 18);
-    let dens = asking::words(q, dens);
-    let tempos = asking::words(q, tempos);
-    let lent = asking::lend_u64s(lent, room);
-    asking::mark_u64s(lent);
-    fill_answer(
-        out,
-        to,
-        filler::fill_lines(t, words, nums, dens, tempos, lent),
-    );
-    asking::more_u64s(out, to, lent);
-    asking::end_line(out, to);
+    let lent = room_at(q, TRANSPORT, lent);
+    fill_answer(out, to, fill_of(q, tempo, nums, lent));
+    end_lent(out, to, lent);
 }
 
 // 52: u64 start, u64 end, U64s lines. No local may hold a struct with a reference in it, so this is
@@ -144,9 +162,7 @@ fn ask_range(q: &[u32], space: &mut [u64], out: &mut [u8; HELD], to: &mut usize)
     }
     let start = asking::u64_at(q, 0);
     let end = asking::u64_at(q, 2);
-    let count = asking::u32_at(q, 4) as usize;
-    let lines = asking::lend_u64s(space, count);
-    asking::u64s(asking::longs(q, 4), lines);
+    let lines = numbers_at(q, 4, space);
     let report = lines::check_lines(lines);
     let part = lines::range::tested_part(lines, report, start, end);
     match report {
@@ -190,20 +206,42 @@ fn turn(
             answer(op, asking::part(q, 0, n), lines, nums, lent, out, to);
             true
         }
-        Asked::TooLarge => {
-            asking::unknown(out, to);
-            true
-        }
-        Asked::Cut => {
-            asking::unknown(out, to);
-            false
-        }
-        Asked::End => false,
+        Asked::Not(why) => asking::no_question(why, out, to),
     }
 }
 
 // Nothing says that the input ends, so the loop counts its turns down from a number that no run
 // uses up.
+fn answer_all(
+    chunk: &mut [u8; CHUNK],
+    q: &mut [u32; MOST],
+    lines: &mut [u64; LIST],
+    nums: &mut [i64; LIST],
+    lent: &mut [u64; ROOM],
+    out: &mut [u8; HELD],
+) {
+    let mut at = 0;
+    let mut left = 0;
+    let mut to = 0;
+    let mut turns = u64::MAX;
+    while turns > 0
+        && turn(
+            chunk,
+            &mut at,
+            &mut left,
+            q,
+            lines,
+            nums,
+            lent,
+            out,
+            &mut to,
+        )
+    {
+        turns -= 1;
+    }
+    asking::flush(out, &mut to);
+}
+
 fn main() {
     let mut chunk = [0u8; CHUNK];
     let mut q = [0u32; MOST];
@@ -211,24 +249,12 @@ fn main() {
     let mut nums = [0i64; LIST];
     let mut lent = [0u64; ROOM];
     let mut out = [0u8; HELD];
-    let mut at = 0;
-    let mut left = 0;
-    let mut to = 0;
-    let mut turns = u64::MAX;
-    while turns > 0
-        && turn(
-            &mut chunk,
-            &mut at,
-            &mut left,
-            &mut q,
-            &mut lines,
-            &mut nums,
-            &mut lent,
-            &mut out,
-            &mut to,
-        )
-    {
-        turns -= 1;
-    }
-    asking::flush(&mut out, &mut to);
+    answer_all(
+        &mut chunk,
+        &mut q,
+        &mut lines,
+        &mut nums,
+        &mut lent,
+        &mut out,
+    );
 }

@@ -1,10 +1,8 @@
 -- What the words of a question mean. A word past the question's end counts as 0.
-use Prim.Native.Nat.{ℕ, _+_, _-_, _*_}
-use mathlib.Core.Bool.{cond}
+use Prim.Native.Nat.{ℕ, _+_, _*_}
 use mathlib.Core.List.{List}
-use lib.Dec.{ltb}
-use lib.IntN.{ℤ, pos, negsuc}
 use lib.ListN.{getD}
+use Rattle.numbers.specs.Bits.{signedOf}
 use Rattle.beats.specs.declared.Beat.{Beat}
 
 -- the word of four bytes, little-endian
@@ -18,15 +16,6 @@ wordAt bytes at = joined (getD bytes at 0) (getD bytes (at + 1) 0) (getD bytes (
 -- the 64 bits of two words, the lower one first
 abbrev pub u64At : List ℕ → ℕ → ℕ
 u64At q i = getD q i 0 + 4294967296 * getD q (i + 1) 0
-
--- the number that 64 bits are in two's complement. (negsuc n is -(n + 1).)
-unfoldable pub signedOf : ℕ → ℤ
-signedOf bits = cond (ltb bits 9223372036854775808) (pos bits) (negsuc (18446744073709551615 - bits))
-
--- and the bits of a number
-abbrev pub bitsOf : ℤ → ℕ
-bitsOf (pos n) = n
-bitsOf (negsuc n) = 18446744073709551615 - n
 
 -- the three words of a Beat
 abbrev pub beatAt : List ℕ → ℕ → Beat

@@ -5,7 +5,8 @@ use mathlib.Core.List.{List, [], _∷_}
 use lib.Dec.{ltb}
 use lib.IntN.{ℤ}
 use lib.ListN.{length, getD, take, drop}
-use Rattle.asking.specs.Fields.{u64At, signedOf}
+use Rattle.numbers.specs.Bits.{signedOf}
+use Rattle.asking.specs.Fields.{u64At}
 
 -- an index that no question has
 abbrev pub nowhere : ℕ

@@ -2,7 +2,6 @@
 ghost use mathlib.Core.Path.{_≡_};
 ghost use Rattle.asking.specs.Fields.{beatAt};
 use crate::HELD;
-use crate::fields::as_bits;
 use crate::fields::i64_at;
 use crate::fields::u32_at;
 use crate::lines::more;
@@ -26,6 +25,6 @@ pub fn beat_at(q: &[u32], i: usize) -> Beat
 pub fn more_beat(out: &mut [u8; HELD], to: &mut usize, b: Beat) {
     let num = b.num;
     let den = b.den;
-    more(out, to, as_bits(num));
+    more(out, to, numbers::as_bits(num));
     more(out, to, den as u64);
 }

@@ -4,7 +4,8 @@ ghost use Prim.Native.Nat.{_+_, _*_};
 ghost use lib.ListN.{getD};
 ghost use lib.Ieee as Ieee;
 ghost use lib.Ieee.{binary32, binary64};
-ghost use Rattle.asking.specs.Fields.{u64At, signedOf, bitsOf};
+ghost use Rattle.numbers.specs.Bits.{signedOf};
+ghost use Rattle.asking.specs.Fields.{u64At};
 
 // A word; 0 past the end.
 pub fn u32_at(q: &[u32], i: usize) -> u32
@@ -31,33 +32,11 @@ pub fn u64_at(q: &[u32], i: usize) -> u64
     }
 }
 
-// The number that 64 bits are in two's complement.
-pub fn as_signed(bits: u64) -> i64
-    ensures { λ r. ⌜ r ≡ signedOf bits ⌝ }
-{
-    if bits < 0x8000_0000_0000_0000 {
-        numbers::signed(false, bits)
-    } else {
-        numbers::signed(true, 0xffff_ffff_ffff_ffff - bits + 1)
-    }
-}
-
-// The 64 bits that a number is in two's complement.
-pub fn as_bits(x: i64) -> u64
-    ensures { λ r. ⌜ r ≡ bitsOf x ⌝ }
-{
-    if numbers::negative(x) {
-        0xffff_ffff_ffff_ffff - (numbers::magnitude(x) - 1)
-    } else {
-        numbers::magnitude(x)
-    }
-}
-
 // A signed number of two words.
 pub fn i64_at(q: &[u32], i: usize) -> i64
     ensures { λ r. ⌜ r ≡ signedOf (u64At (now (q .entry)) i) ⌝ }
 {
-    as_signed(u64_at(q, i))
+    numbers::as_signed(u64_at(q, i))
 }
 
 // A float of one word, its bits.

@@ -13,8 +13,6 @@ pub mod refusals;
 
 pub use beat::beat_at;
 pub use beat::more_beat;
-pub use fields::as_bits;
-pub use fields::as_signed;
 pub use fields::f32_at;
 pub use fields::f64_at;
 pub use fields::i64_at;
@@ -43,6 +41,8 @@ pub use lists::past_words;
 pub use lists::u64s;
 pub use lists::words;
 pub use reading::Asked;
+pub use reading::Unread;
+pub use reading::no_question;
 pub use reading::question;
 
 // Bytes of input that are held at once: a multiple of 4, so that no word lies across two chunks.

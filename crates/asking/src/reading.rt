@@ -3,7 +3,9 @@ ghost use mathlib.Core.Path.{_≡_};
 ghost use Prim.Native.Nat.{_≤_};
 ghost use Rattle.asking.specs.Fields.{joined, wordAt};
 use crate::CHUNK;
+use crate::HELD;
 use crate::MOST;
+use crate::lines::unknown;
 
 fn wide(b: u8) -> u32
     ensures { λ r. ⌜ r ≡ b ⌝ }
@@ -60,18 +62,6 @@ fn next(chunk: &mut [u8; CHUNK], at: &mut usize, left: &mut usize) -> Step {
     Step::Word(word_at(chunk, i))
 }
 
-// Lets n words pass; false where the input ends before.
-fn skip(chunk: &mut [u8; CHUNK], at: &mut usize, left: &mut usize, n: usize) -> bool {
-    let mut k = n;
-    while k > 0 {
-        let Step::Word(_) = next(chunk, at, left) else {
-            return false;
-        };
-        k -= 1;
-    }
-    true
-}
-
 // Puts a word into q, where it has the index.
 fn keep(q: &mut [u32; MOST], k: usize, w: u32) {
     if k < MOST {
@@ -98,14 +88,31 @@ fn fill(
     true
 }
 
-pub enum Asked {
-    // The op, and how many words of the buffer are its question.
-    Ask(u32, usize),
+// Why there is no question to answer.
+pub enum Unread {
     // A question of more words than the buffer has, which were let pass.
     TooLarge,
     // The input ends within the question.
     Cut,
     End,
+}
+
+// Lets the n words of a question pass, unless the input ends before.
+fn skip(chunk: &mut [u8; CHUNK], at: &mut usize, left: &mut usize, n: usize) -> Unread {
+    let mut k = n;
+    while k > 0 {
+        let Step::Word(_) = next(chunk, at, left) else {
+            return Unread::Cut;
+        };
+        k -= 1;
+    }
+    Unread::TooLarge
+}
+
+pub enum Asked {
+    // The op, and how many words of the buffer are its question.
+    Ask(u32, usize),
+    Not(Unread),
 }
 
 // The next question: its op, and its words at the start of q. A program starts with `at` and `left`
@@ -117,8 +124,8 @@ pub fn question(
     q: &mut [u32; MOST],
 ) -> Asked {
     match next(chunk, at, left) {
-        Step::End => Asked::End,
-        Step::Short => Asked::Cut,
+        Step::End => Asked::Not(Unread::End),
+        Step::Short => Asked::Not(Unread::Cut),
         Step::Word(op) => behind(chunk, at, left, q, op),
     }
 }
@@ -132,18 +139,30 @@ fn behind(
     op: u32,
 ) -> Asked {
     let Step::Word(count) = next(chunk, at, left) else {
-        return Asked::Cut;
+        return Asked::Not(Unread::Cut);
     };
     let n = count as usize;
     if n > MOST {
-        if skip(chunk, at, left, n) {
-            return Asked::TooLarge;
-        }
-        return Asked::Cut;
+        return Asked::Not(skip(chunk, at, left, n));
     }
     if fill(chunk, at, left, q, n) {
         Asked::Ask(op, n)
     } else {
-        Asked::Cut
+        Asked::Not(Unread::Cut)
+    }
+}
+
+// Answers what is no question; false where none can follow.
+pub fn no_question(why: Unread, out: &mut [u8; HELD], to: &mut usize) -> bool {
+    match why {
+        Unread::TooLarge => {
+            unknown(out, to);
+            true
+        }
+        Unread::Cut => {
+            unknown(out, to);
+            false
+        }
+        Unread::End => false,
     }
 }

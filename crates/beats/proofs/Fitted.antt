@@ -1,25 +1,19 @@
 -- The one test for 2: both numbers are looked at as they stand, before they are reduced.
-use mathlib.Core.Path.{_≡_, refl, sym, ap, _∙_}
+use mathlib.Core.Path.{_≡_, sym, ap, _∙_}
 use mathlib.Core.Bool.{Bool, true, false, cond, _&&_}
 use mathlib.Core.List.{[]}
-use Prim.Native.Nat.{ℕ, _*_, _<_, _≤_, _^_}
-use native.Mathlib.Nat.{mul-le-mul, lt-of-le-of-lt}
-use native.Mathlib.Omega.{arith}
-use lib.Dec.{leb, lit<}
+use Prim.Native.Nat.{ℕ, _*_, _<_, _≤_}
+use lib.Dec.{leb}
 use lib.IntN.{ℤ, pos, _*ℤ_}
 use borrow.Author.Tests.{le-leb, lt-leb}
 use Rattle.numbers.specs.declared.exact.Exact.{Exact}
 use Rattle.numbers.specs.Answers.{accepted, refused}
 use Rattle.numbers.specs.Signs.{inI64, toI64}
 use Rattle.numbers.specs.Exacts.{valueOf, exactOf}
-use Rattle.numbers.proofs.Laws.{unstopped, valued}
+use Rattle.numbers.proofs.Laws.{unstopped, valued, and-false}
 use Rattle.beats.specs.declared.Beat.{Beat}
 use Rattle.beats.specs.Beats.{newBeat}
 use Rattle.beats.specs.Sums.{fits, fitted}
-
-and-false : (b : Bool) → (b && false) ≡ false
-and-false true = refl
-and-false false = refl
 
 module _ (num : ℤ) (den : ℕ) where
   -- refused exactly where the two numbers do not fit as they stand
@@ -41,12 +35,6 @@ module _ (num : ℤ) (den : ℕ) where
   pub done : (made : Beat) → inI64 num ≡ true → den ≤ 4294967295 → made ≡ newBeat (toI64 num) den → accepted made ≡ fitted num den
   done made e h m =
       ap accepted (m ∙ ap (λ (z : ℤ). newBeat z den) (unstopped num e)) ∙ fit (λ i. e i && le-leb den 4294967295 h i)
-
--- the product of two denominators
-pub dens-fit : {d e : ℕ} → d < 2 ^ 32 → e < 2 ^ 32 → d * e < 2 ^ 64
-dens-fit {d} {e} p q =
-    let h : d * e ≤ 4294967295 * 4294967295 = mul-le-mul {n₁ = d} {m₁ = e} {n₂ = 4294967295} {m₂ = 4294967295} (omega arith) (omega arith) in
-    lt-of-le-of-lt h (lit< tt)
 
 -- a number worked out of two cross products, whose numerators came through the machine's bits
 pub crossed : (op : ℤ → ℤ → ℤ) (e : Exact) (x y a b : ℤ) (d f : ℕ) → x ≡ a → y ≡ b → e ≡ exactOf (op (x *ℤ pos d) (y *ℤ pos f)) → valueOf e ≡ op (a *ℤ pos d) (b *ℤ pos f)

@@ -11,14 +11,14 @@ use Rattle.numbers.specs.declared.exact.Order.{Order}
 use Rattle.numbers.specs.declared.exact.Order.the-variants.{Equal}
 use Rattle.numbers.specs.Answers.{accepted}
 use Rattle.numbers.specs.Exacts.{orderOf}
-use Rattle.numbers.proofs.Laws.{gap-times, lt-trans, sums-apart, grown, isLess, less-is, equal-only, same-equal, turned, exchanged, order-times}
+use Rattle.numbers.proofs.Laws.{holds, gap-times, lt-trans, sums-apart, grown, isLess, less-is, equal-only, same-equal, turned, exchanged, order-times}
 use Rattle.beats.specs.declared.Beat.{Beat}
 use Rattle.beats.specs.Beats.{isBeat, wholeBeat}
 use Rattle.beats.specs.Sums.{addBeats, mulBeat, orderOfBeats, belowBeat}
 use Rattle.beats.specs.Values.{HasValue}
 use Rattle.beats.proofs.Lowest.{same-beat}
 use Rattle.beats.proofs.Refusing.{beat-above, beat-lowest}
-use Rattle.beats.proofs.Values.{cross, own-value, sum-value, scaled-value, accepted-beat}
+use Rattle.beats.proofs.Values.{cross, own-value, own-value-left, sum-value, scaled-value, accepted-beat}
 
 -- ---- a total order
 
@@ -80,23 +80,17 @@ below-trans a b c p q r s t =
     let z = third a b c in
     by (order-values a c x z (all a b c) p r h (first-value a b c) (third-value a b c)) (below-is a c) (less-is x z)
     ∙ T-true (ltZ x z) (lt-trans x y z
-    (true-T (ltZ x y) (sym (by (order-values a b x y (all a b c) p q h (first-value a b c) (second-value a b c)) (below-is a b) (less-is x y)) ∙ s))
-    (true-T (ltZ y z) (sym (by (order-values b c y z (all a b c) q r h (second-value a b c) (third-value a b c)) (below-is b c) (less-is y z)) ∙ t)))
+    (holds (ltZ x y) (sym (by (order-values a b x y (all a b c) p q h (first-value a b c) (second-value a b c)) (below-is a b) (less-is x y)) ∙ s))
+    (holds (ltZ y z) (sym (by (order-values b c y z (all a b c) q r h (second-value a b c) (third-value a b c)) (below-is b c) (less-is y z)) ∙ t)))
   where
     by : {o u : Order} {s t : Bool} → o ≡ u → isLess o ≡ s → isLess u ≡ t → s ≡ t
     by e f g = sym f ∙ ap isLess e ∙ g
-
-    true-T : (t : Bool) → t ≡ true → T t
-    true-T t e = subst T (sym e) tt
 
     T-true : (t : Bool) → T t → t ≡ true
     T-true true e = refl
     T-true false e = absurd e
 
 -- ---- sums and multiples keep the order
-
-own-value-left : (beat : Beat) (k : ℕ) → HasValue beat (beat .num *ℤ pos k) (k * beat .den)
-own-value-left beat k = subst (λ (d : ℕ). HasValue beat (beat .num *ℤ pos k) d) (mul-comm (beat .den) k) (own-value beat k)
 
 -- a and b, each with c added, stand as a and b do
 pub sum-order : (a b c x y : Beat) → 0 < a .den → 0 < b .den → 0 < c .den → addBeats a c ≡ accepted x → addBeats b c ≡ accepted y → orderOfBeats x y ≡ orderOfBeats a b

@@ -1,6 +1,6 @@
 -- The refusal by 1 comes before everything else.
-use mathlib.Core.Path.{_≡_, refl, sym, ap}
-use mathlib.Core.Bool.{Bool, true, false, cond, _&&_}
+use mathlib.Core.Path.{_≡_, sym, ap}
+use mathlib.Core.Bool.{Bool, true, false, cond}
 use mathlib.Core.List.{[]}
 use Prim.Native.Nat.{_<_}
 use lib.Dec.{ltb, eqb}
@@ -8,6 +8,7 @@ use lib.IntN.{natAbs}
 use borrow.Author.Tests.{ltb-true, eqb-true}
 use Rattle.numbers.specs.Answers.{Answer, refused}
 use Rattle.numbers.specs.Divisor.{gcdOf}
+use Rattle.numbers.proofs.Laws.{and-left, and-right}
 use Rattle.beats.specs.declared.Beat.{Beat}
 use Rattle.beats.specs.Beats.{isBeat}
 
@@ -20,14 +21,6 @@ module _ {A : Type 0} (fine : Bool) (answer : Answer A) where
   is-fine e = sym (ap (λ (t : Bool). cond t answer (refused 1 [])) e)
 
 -- ---- what a beat is
-
-pub and-left : (a b : Bool) → a && b ≡ true → a ≡ true
-and-left true b e = refl
-and-left false b e = e
-
-pub and-right : (a b : Bool) → a && b ≡ true → b ≡ true
-and-right true b e = e
-and-right false b e = cc
 
 module _ (beat : Beat) (e : isBeat beat ≡ true) where
   pub beat-above : 0 < beat .den

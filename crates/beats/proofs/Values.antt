@@ -37,6 +37,9 @@ own beat e = stays beat (beat-above beat e) (beat-lowest beat e)
 pub own-value : (beat : Beat) (k : ℕ) → HasValue beat (beat .num *ℤ pos k) (beat .den * k)
 own-value beat k = sym (times-times (beat .num) (beat .den) k) ∙ swapped (beat .num) (beat .den) k
 
+pub own-value-left : (beat : Beat) (k : ℕ) → HasValue beat (beat .num *ℤ pos k) (k * beat .den)
+own-value-left beat k = subst (λ (d : ℕ). HasValue beat (beat .num *ℤ pos k) d) (mul-comm (beat .den) k) (own-value beat k)
+
 -- num / den and n / d are one number
 pub value-same : (beat : Beat) (num n : ℤ) (den d : ℕ) → 0 < den → num *ℤ pos d ≡ n *ℤ pos den → HasValue beat num den → HasValue beat n d
 value-same beat num n den d above e v =

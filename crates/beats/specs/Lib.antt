@@ -4,3 +4,4 @@ pub mod Frames
 pub mod Steps
 pub mod Readings
 pub mod Values
+pub mod Cuts

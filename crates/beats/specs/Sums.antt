@@ -30,6 +30,10 @@ addBeats a b = fitted (a .num *ℤ pos (b .den) +ℤ b .num *ℤ pos (a .den)) (
 abbrev pub subBeats : Beat → Beat → Answer Beat
 subBeats a b = fitted (a .num *ℤ pos (b .den) -ℤ b .num *ℤ pos (a .den)) (a .den * b .den)
 
+-- a + b, of any size
+unfoldable pub sumOf : Beat → Beat → Beat
+sumOf a b = newBeat (a .num *ℤ pos (b .den) +ℤ b .num *ℤ pos (a .den)) (a .den * b .den)
+
 -- a times num / den. With den 0 the denominator is 0, which becomes 1
 abbrev pub mulBeat : Beat → ℤ → ℕ → Answer Beat
 mulBeat a num den = fitted (a .num *ℤ num) (a .den * den)

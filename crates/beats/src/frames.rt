@@ -1,7 +1,21 @@
 // From beats to seconds to frames, each operation rounded once, in the order of document 01.
 use crate::Beat;
 ghost use mathlib.Core.Path.{_≡_};
+ghost use lib.Ieee.{ofInt, binary64};
 ghost use Rattle.beats.specs.Frames.{beatFloat, secondsAt, framesAt, frameOf};
+
+// The nearest float. Below 2^53 in size it is n itself.
+fn float_near(n: i64) -> f64
+    ensures { λ r. ⌜ r ≡ ofInt binary64 n ⌝ }
+{
+    if n > 0x1f_ffff_ffff_ffff {
+        return std::num::nearest_i64_to_f64(n);
+    }
+    if n < -0x1f_ffff_ffff_ffff {
+        return std::num::nearest_i64_to_f64(n);
+    }
+    n as f64
+}
 
 // num / den.
 pub fn float_of(beat: Beat) -> f64
@@ -9,7 +23,7 @@ pub fn float_of(beat: Beat) -> f64
 {
     let num = beat.num;
     let den = beat.den;
-    std::num::nearest_i64_to_f64(num) / (den as f64)
+    float_near(num) / (den as f64)
 }
 
 // beat * 60 / tempo.

@@ -11,6 +11,7 @@ ghost use Rattle.beats.specs.Steps.{stepAnswer};
 ghost use Rattle.beats.specs.Readings.{readBeat, readOrder, readFloat, readFrame, readStep};
 use numbers::exact::Order;
 
+mod cuts;
 pub mod frames;
 pub mod sums;
 

@@ -2,6 +2,7 @@
 // not: the exact products are worked out first, tested for 2, and then reduced.
 use crate::Beat;
 use crate::BeatAnswer;
+use crate::cuts::Cut;
 use numbers::exact::Exact;
 use numbers::exact::Order;
 ghost use mathlib.Core.Path.{_≡_};
@@ -72,7 +73,17 @@ pub fn order(a: Beat, b: Beat) -> Order
     let ad = a.den;
     let bn = b.num;
     let bd = b.den;
-    numbers::exact::order_of_products(an, bd as u64, bn, ad as u64)
+    let x = Cut::product(an, bd);
+    let y = Cut::product(bn, ad);
+    let less = x.below(y);
+    let more = y.below(x);
+    if less {
+        Order::Less
+    } else if more {
+        Order::Greater
+    } else {
+        Order::Equal
+    }
 }
 
 // Whether a is below b.

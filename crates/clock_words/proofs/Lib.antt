@@ -1,4 +1,3 @@
-pub mod Signs
 pub mod Words
 pub mod Places
 pub mod Laws

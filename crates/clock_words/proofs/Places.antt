@@ -1,16 +1,17 @@
 -- The words of a clock that is placed are read as the transport where it was placed: of eleven words two are new. Assumes nothing.
-use mathlib.Core.Path.{_≡_, refl, sym, _∙_}
+use mathlib.Core.Path.{_≡_, refl, _∙_}
 use mathlib.Core.Bool.{Bool, true, false, _&&_}
 use mathlib.Core.List.{List, [], _∷_}
 use Prim.Native.Nat.{ℕ}
 use native.Mathlib.Omega.{arith}
 use lib.Dec.{leb}
+use Rattle.numbers.proofs.Laws.{both}
 use Rattle.transport.specs.declared.PlayState.{PlayState}
 use Rattle.transport.specs.declared.PlayState.the-variants.{Stopped, Playing, Paused}
 use Rattle.transport.specs.Transports.{sound, movedTo}
 use Rattle.transport.proofs.Laws.{sound-position}
 use Rattle.clock_words.specs.Clocks.{short, clockWords, unfit, transportOf, clockOf, stateWord, placed}
-use Rattle.clock_words.proofs.Words.{both, reads, reads-none}
+use Rattle.clock_words.proofs.Words.{reads, reads-none}
 
 -- words that are no clock are unsound
 pub no-clock-unsound : (words : List ℕ) → clockWords words ≡ false → sound (clockOf words) ≡ true → ⊥

@@ -1,6 +1,6 @@
 -- What the words of a clock are read as, by the test that they are one. Assumes nothing.
-use mathlib.Core.Path.{_≡_, refl, sym}
-use mathlib.Core.Bool.{Bool, true, false, true≢false, _&&_}
+use mathlib.Core.Path.{_≡_}
+use mathlib.Core.Bool.{true, false}
 use mathlib.Core.List.{List}
 use Prim.Native.Nat.{ℕ, _≤_}
 use borrow.Author.Tests.{leb-true, le-leb, eq-eqb, ne-eqb}
@@ -10,13 +10,9 @@ use lib.ListN.{getD}
 use mir.Syntax.{w64}
 use mir.Val.{SFits, toZ, ofZ}
 use mir.ValLaws.{toZ-ofZ}
+use Rattle.numbers.proofs.Laws.{both}
 use Rattle.meter.specs.declared.Pickup.the-variants.{Absent, Present}
-use Rattle.transport.specs.declared.Transport.{Transport}
 use Rattle.clock_words.specs.Clocks.{clockWords, pickupOf, unfit, transportOf, clockOf}
-
-pub both : (a b : Bool) → (a && b) ≡ true → (a ≡ true) × (b ≡ true)
-both true b h = (refl, h)
-both false b h = absurd (true≢false (sym h))
 
 -- the words that are read as 32 bits
 pub record Shorts (words : List ℕ) : Type 0 where

@@ -2,13 +2,14 @@
 --
 --     0 rate      1 bpm bits   2 beats a bar   3 length        4 position           5 state: 0 stopped, 1 playing, 2 paused
 --     6 loop: 0 off, 1 on      7 loop start    8 loop end      9 pickup numerator   10 pickup denominator
-use Prim.Native.Nat.{ℕ, _-_}
+use Prim.Native.Nat.{ℕ}
 use mathlib.Core.Bool.{Bool, cond, _&&_}
 use mathlib.Core.List.{List}
-use lib.Dec.{leb, ltb, eqb}
-use lib.IntN.{ℤ, pos, negsuc, natAbs}
+use lib.Dec.{leb, eqb}
+use lib.IntN.{ℤ, natAbs}
 use lib.Ieee.{binary32, ofBits}
 use lib.ListN.{getD, set}
+use Rattle.numbers.specs.Bits.{signedOf}
 use Rattle.meter.specs.declared.Pickup.{Pickup}
 use Rattle.meter.specs.declared.Pickup.the-variants.{Absent, Present}
 use Rattle.transport.specs.declared.PlayState.{PlayState}
@@ -35,10 +36,6 @@ stateOf word = cond (eqb word 0) Stopped (cond (eqb word 1) Playing Paused)
 -- 0 off, whatever the two frames are; 1 on
 abbrev pub loopOf : ℕ → ℕ → ℕ → LoopRange
 loopOf on start end = cond (eqb on 0) Off (On start end)
-
--- the number that 64 bits are in two's complement. (negsuc n is -(n + 1).)
-unfoldable pub signedOf : ℕ → ℤ
-signedOf bits = cond (ltb bits 9223372036854775808) (pos bits) (negsuc (18446744073709551615 - bits))
 
 -- 0/0 stands for none. Any other numerator over 0 is a pickup that is no beat
 abbrev pub pickupOf : ℤ → ℕ → Pickup

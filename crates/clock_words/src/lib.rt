@@ -6,7 +6,7 @@ use transport::LoopRange;
 use transport::PlayState;
 use transport::Transport;
 ghost use mathlib.Core.Path.{_≡_};
-ghost use Rattle.clock_words.specs.Clocks.{clockWords, stateOf, loopOf, signedOf, pickupOf, unfit, clockOf, stateWord, placed};
+ghost use Rattle.clock_words.specs.Clocks.{clockWords, stateOf, loopOf, pickupOf, unfit, clockOf, stateWord, placed};
 
 pub const WORDS: usize = 11;
 
@@ -55,17 +55,6 @@ fn loop_of(on: u64, start: u64, end: u64) -> LoopRange
     }
 }
 
-// The number that 64 bits are in two's complement.
-fn as_signed(bits: u64) -> i64
-    ensures { λ r. ⌜ r ≡ signedOf bits ⌝ }
-{
-    if bits < 0x8000_0000_0000_0000 {
-        numbers::signed(false, bits)
-    } else {
-        numbers::signed(true, 0xffff_ffff_ffff_ffff - bits + 1)
-    }
-}
-
 // The pickup of a numerator and a denominator: 0/0 is none.
 pub fn pickup_of(num: i64, den: u32) -> Pickup
     ensures { λ r. ⌜ r ≡ pickupOf num den ⌝ }
@@ -107,7 +96,7 @@ pub fn clock_of(words: &[u64; WORDS]) -> Transport
     }
     let state = state_of(words[5]);
     let looping = loop_of(words[6], words[7], words[8]);
-    let pickup = pickup_of(as_signed(words[9]), words[10] as u32);
+    let pickup = pickup_of(numbers::as_signed(words[9]), words[10] as u32);
     Transport {
         sample_rate: words[0] as u32,
         bpm: rounding::f32_of(words[1] as u32),

@@ -1,15 +1,15 @@
 -- The parts of the lines, put one behind another, and how long they are at most.
-use mathlib.Core.Path.{_≡_, refl, sym, ap, _∙_}
-use mathlib.Core.Bool.{Bool, true, false, cond}
+use mathlib.Core.Path.{_≡_, ap}
+use mathlib.Core.Bool.{Bool, true, false}
 use mathlib.Core.List.{List, [], _∷_, _++_}
-use Prim.Native.Nat.{ℕ, zero, suc, min, _+_, _-_, _^_, _≤_, _<_}
+use Prim.Native.Nat.{ℕ, min, _+_, _-_, _≤_, _<_}
 use native.Mathlib.Numerals.{add-one}
 use native.Mathlib.Omega.{arith}
 use borrow.Author.Tests.{lt-leb, le-leb, eq-eqb, ne-eqb}
-use lib.ListN.{length, length-append}
+use lib.ListN.{length}
 use Rattle.beats.specs.declared.Beat.{Beat}
 use Rattle.text.specs.Texts.{Puts, decimal, beatText}
-use Rattle.text.proofs.Laws.{nothing, behind, retext, digits32}
+use Rattle.text.proofs.Laws.{nothing, behind, retext}
 use Rattle.count_text.specs.Answers.{moreText, amountText, unitText, toBeatText, countLine, sureText, unsureText, fitsLine, repeated, rowText, overWord, overText, rowLine, linesText}
 
 -- ---- the count
@@ -22,10 +22,6 @@ module _ (count less : ℕ) where
   pub searched : (count ≡ 4294967295 → ⊥) → decimal (count - less) ≡ amountText count less
   unfolding amountText
   searched n = simp (ne-eqb count 4294967295 n)
-
--- a number of bars has at most ten digits
-pub ten-digits : (n : ℕ) → n < 2 ^ 32 → length (decimal n) ≤ 10
-ten-digits n h = digits32 n h
 
 module _ (count : ℕ) where
   pub one-bar : count ≡ 1 → 32 ∷ 98 ∷ 97 ∷ 114 ∷ [] ≡ unitText count

@@ -1,5 +1,5 @@
 -- What the drummer is told of a file and a beat, byte by byte.
-use mathlib.Core.Bool.{Bool, true, false, cond}
+use mathlib.Core.Bool.{Bool, cond}
 use mathlib.Core.List.{List, [], _∷_, _++_}
 use Prim.Native.Nat.{ℕ, zero, suc, min, _-_}
 use lib.Dec.{leb, eqb}
@@ -9,7 +9,6 @@ use Rattle.meter.specs.declared.Pickup.{Pickup}
 use Rattle.meter.specs.Meters.{pointsOf}
 use Rattle.meter.specs.Counts.{countAt}
 use Rattle.fits.specs.Decision.{fitsBool}
-use Rattle.score.specs.declared.Score.{Score}
 use Rattle.score.specs.Format.{isScore, scoreOf, meterWords}
 use Rattle.spelling.specs.declared.BeatWord.{BeatWord}
 use Rattle.spelling.specs.declared.BeatWord.the-variants.{Read, NotNumber, NotBeat}

@@ -8,7 +8,7 @@ use borrow.Author.Tests.{leb-true, le-leb}
 use lib.Dec.{leb}
 use lib.ListN.{length, length-append}
 use Rattle.numbers.specs.Answers.{Answer, accepted}
-use Rattle.beats.proofs.Laws.{and-left, and-right}
+use Rattle.numbers.proofs.Laws.{and-left, and-right}
 use Rattle.transport.specs.declared.Transport.{Transport}
 use Rattle.transport.specs.Transports.{sound, playing}
 use Rattle.transport.specs.Advances.{advanced}

@@ -7,7 +7,7 @@ use native.Mathlib.Nat.{add-zero}
 use native.Mathlib.Omega.{arith}
 use lib.ListN.{length, drop}
 use Rattle.numbers.specs.Answers.{Answer, accepted, refused}
-use Rattle.beats.proofs.Laws.{and-left, and-right}
+use Rattle.numbers.proofs.Laws.{and-left, and-right}
 use Rattle.transport.specs.declared.Transport.{Transport}
 use Rattle.transport.specs.Transports.{sound}
 use Rattle.transport.specs.Changes.{Handed}
@@ -15,7 +15,7 @@ use Rattle.transport.specs.Advances.{advanced}
 use Rattle.transport.specs.Promise.{Composes}
 use Rattle.transport.proofs.Laws.{advanced-sound, advanced-low, composes}
 use Rattle.cues.specs.Sounding.{Cue, cues, later}
-use Rattle.cues.specs.CueCall.{cueTest, Said, movedBy, handedBy, cueAnswer, flat, over, wordsBy, cueAfter}
+use Rattle.cues.specs.CueCall.{cueTest, Said, movedBy, handedBy, flat, over, wordsBy}
 use Rattle.cues.specs.Promise.{Block, isAccepted, said, pairsOf, answerTo, saidTo, next, cuesIn}
 use Rattle.cues.specs.Promise.{allAccepted, joinedCues, lastTransport, someWraps, someFinishes, framesIn, ByBlocks}
 use Rattle.cues.proofs.Sounding.{cues-on}

@@ -2,16 +2,13 @@
 use mathlib.Core.Path.{_≡_, refl, sym, ap, _∙_}
 use mathlib.Core.List.{List, [], _∷_, _++_}
 use Prim.Native.Nat.{ℕ, zero, suc, _+_, _-_, _*_, _≤_, _<_, zero-le}
-use native.Mathlib.Nat.{add-zero, add-suc, suc-add, suc-mul}
+use native.Mathlib.Nat.{add-zero, suc-mul}
 use native.Mathlib.Numerals.{add-one, add-two}
 use native.Mathlib.Omega.{arith}
 use lib.ListN.{length, set, getD, drop, length-append, length-set, drop-of-length-le}
 use lib.Seq.{sets, drop-cons}
-use Rattle.cues.specs.Plans.{partWords, lapWords, Within, Writes, WritesLaps}
-
-pub sets-append : (d : List ℕ) (i : ℕ) (vs ws : List ℕ) → sets d i (vs ++ ws) ≡ sets (sets d i vs) (i + length vs) ws
-sets-append d i [] ws = ap (λ (n : ℕ). sets d n ws) (sym (add-zero i))
-sets-append d i (v ∷ vs) ws = sets-append (set d i v) (suc i) vs ws ∙ ap (λ (n : ℕ). sets (sets (set d i v) (suc i) vs) n ws) (suc-add i (length vs) ∙ sym (add-suc i (length vs)))
+use Rattle.numbers.proofs.Laws.{sets-append}
+use Rattle.cues.specs.Plans.{partWords, lapWords, Writes, WritesLaps}
 
 -- ---- a part
 

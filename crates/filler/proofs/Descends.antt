@@ -15,7 +15,7 @@ use lib.ListN.{length}
 use Rattle.numbers.specs.Answers.{Answer, accepted}
 use Rattle.numbers.proofs.Laws.{by-order}
 use Rattle.rounding.specs.Floats.{float0, float1}
-use Rattle.rounding.proofs.Laws.{max-positive}
+use Rattle.rounding.proofs.Laws.{max-positive, Up, up→le}
 use Rattle.beats.specs.declared.Beat.{Beat}
 use Rattle.beats.specs.Beats.{isBeat}
 use Rattle.beats.specs.Sums.{belowBeat}
@@ -29,7 +29,7 @@ use Rattle.tempo.specs.Answers.{mapTest}
 use Rattle.tempo.specs.Tempos.{TempoPoint, tempoPoints}
 use Rattle.tempo.specs.Rising.{RisingMap}
 use Rattle.tempo.proofs.Laws as tempo
-use Rattle.tempo.proofs.Laws.{Up, up→le, seconds-up, seconds-at-up}
+use Rattle.tempo.proofs.Laws.{seconds-up, seconds-at-up}
 use Rattle.transport.specs.declared.Transport.{Transport}
 use Rattle.timeline.specs.Places.{ownTempo, floatOf, secondsOf, frameAtBar}
 use Rattle.timeline.proofs.Laws.{bar-frame}

@@ -2,8 +2,6 @@
 
 -- entry j of the lines is the frame of bar j
 pub use Rattle.filler.proofs.Filling.{entries-at}
--- `<=` on floats is transitive
-pub use Rattle.filler.proofs.Order.{le-trans-float}
 -- no two cases of the answer read alike
 pub use Rattle.filler.proofs.Readings.{fills-apart}
 -- filled lines never descend: the promise of specs/Promise

@@ -1,4 +1,3 @@
-pub mod Order
 pub mod Numbering
 pub mod Marking
 pub mod Standing

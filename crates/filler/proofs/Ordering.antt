@@ -6,24 +6,22 @@ use native.Mathlib.Nat.{le-of-eq, le-trans, mul-pos, mul-one, mul-comm, mul-asso
 use native.Mathlib.Omega.{arith}
 use lib.IntN.{ℤ, pos, negsuc, _*ℤ_}
 use lib.Signed.{ltZ, leZ}
-use lib.Dec.{T, ltb, leb, eqb, lit<, lit≤, ltb→lt}
-use borrow.Author.Tests.{ltb-true, ltb-false, leb-true, ne-eqb}
+use lib.Dec.{T, leb, lit<, lit≤, ltb→lt}
+use borrow.Author.Tests.{ltb-true, ltb-false, leb-true}
 use lib.Ieee.{Float, nan, inf, fin, Format, prec, binary64, up, down, round, mul, div, ofInt, toUnsigned}
 use lib.Ieee.Fits.{up-pos, down-pos}
 use lib.Ieee.Exact.{HasValue}
 use lib.Ieee.Back.{round-whole}
 use lib.Ieee.Scale.{round-same, finite}
 use lib.Ieee.Positive.{positive, positive-of-value}
-use Rattle.numbers.proofs.Laws.{lt-parts, parts-lt, up-times, down-times}
+use Rattle.numbers.proofs.Laws.{lt-parts, parts-lt, up-times, down-times, and-left, and-right}
 use Rattle.rounding.specs.Floats.{roundAway, float0}
-use Rattle.rounding.proofs.Laws.{round-rises}
+use Rattle.rounding.proofs.Laws.{not-zero, round-rises, Up, up-right, up→le, mul-up, round-up}
 use Rattle.beats.specs.declared.Beat.{Beat}
 use Rattle.beats.specs.Beats.{wholeBeat}
 use Rattle.beats.specs.Sums.{belowBeat}
 use Rattle.beats.specs.Frames.{beatFloat, framesAt}
-use Rattle.beats.proofs.Laws.{and-left, and-right}
 use Rattle.filler.specs.Promise.{smallBeat}
-use Rattle.tempo.proofs.Laws.{Up, up-right, up→le, mul-up, round-up}
 
 -- ---- seconds times the rate
 
@@ -53,9 +51,6 @@ frames-up x y (suc r) l h =
     (up→le (mul binary64 x rate) (mul binary64 y rate) (mul-up binary64 x y rate (int-positive binary64 (suc r) (omega arith) l) h))
 
 -- ---- beats
-
-not-zero : (n : ℕ) → T (ltb 0 n) → eqb n 0 ≡ false
-not-zero n t = ne-eqb n 0 (λ e. let h : 0 < n = ltb→lt 0 n t in omega arith)
 
 -- a quotient by a float that is a whole number is the fraction, rounded once
 pub quotient : (f : Format) (x y : Float) (a c b : ℕ) → 0 < b → 0 < c → HasValue x false a c → HasValue y false b 1 → div f x y ≡ round f false a (b * c)

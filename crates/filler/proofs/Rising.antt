@@ -8,16 +8,18 @@ use lib.IntN.{ℤ, pos}
 use lib.Ieee.{Float, inf, lt, le, binary32, ofBits}
 use borrow.Author.Tests.{not-false}
 use lib.ListN.{length}
+use Rattle.numbers.proofs.Laws.{and-left, and-right}
 use Rattle.rounding.specs.Floats.{float0}
+use Rattle.rounding.proofs.Laws.{up→le}
 use Rattle.beats.specs.declared.Beat.{Beat}
 use Rattle.beats.specs.Beats.{isBeat, wholeBeat}
 use Rattle.beats.specs.Sums.{belowBeat}
 use Rattle.beats.specs.Frames.{beatFloat}
-use Rattle.beats.proofs.Laws.{and-left, and-right, beat-above}
+use Rattle.beats.proofs.Laws.{beat-above}
 use Rattle.tempo.specs.Answers.{allBeats}
 use Rattle.tempo.specs.Tempos.{tempoOf, tempoPoints}
 use Rattle.tempo.specs.Rising.{Follows, RisingFrom, RisingMap}
-use Rattle.tempo.proofs.Laws.{finite-tempo, up→le}
+use Rattle.tempo.proofs.Laws.{finite-tempo}
 use Rattle.problems.specs.Problems.{Problem, when, Listed, listed, soundTempo, tempoBits, tempoPointsAfter, tempoProblems}
 use Rattle.filler.specs.Promise.{smallBeat, allSmall}
 use Rattle.filler.proofs.Ordering.{Placed, exactly, zero-placed, placed-finite, placed-up, placed-below, placed-zero, placed-after, beat-zero}

@@ -1,5 +1,5 @@
 -- The carried tempo walk: a point was passed because the beat is not at or before it, and then no later beat is; so where the walk for a beat stops, that for a later one may go on.
-use mathlib.Core.Path.{_≡_, refl, sym, subst}
+use mathlib.Core.Path.{_≡_, refl, subst}
 use mathlib.Core.Bool.{Bool, true, false}
 use mathlib.Core.List.{List}
 use Prim.Native.Nat.{ℕ, _+_, _≤_, _<_}
@@ -7,6 +7,7 @@ use lib.Dec.{T}
 use lib.IntN.{ℤ, pos}
 use lib.ListN.{length, getD}
 use lib.Ieee.{Float, le}
+use Rattle.numbers.proofs.Laws.{holds}
 use Rattle.rounding.specs.Floats.{float0}
 use Rattle.beats.specs.Frames.{beatFloat}
 use Rattle.tempo.specs.Tempos.{tempoOf, elapsed}
@@ -14,13 +15,10 @@ use Rattle.tempo.proofs.Laws.{begins, ends, stops, goes}
 use Rattle.timeline.specs.Places.{Parallel}
 use Rattle.filler.specs.declared.stands.Stand.{Stand}
 use Rattle.filler.specs.Carried.{Answers, Serves, Stopped}
-use Rattle.filler.proofs.Order.{le-trans-float}
+use Rattle.rounding.proofs.Laws.{le-trans-float}
 
 abbrev pub stand : Float → Float → Float → ℕ → Stand
 stand secs from tempo next = record { secs = secs; from = from; tempo = tempo; next = next }
-
-T-of : (b : Bool) → b ≡ true → T b
-T-of b e = subst T (sym e) tt
 
 abbrev stop : Float → Float → Float → Bool
 stop beat at there = le beat at
@@ -41,7 +39,7 @@ module _ (nums : List ℤ) (dens tempos : List ℕ) (even : Parallel nums dens t
   -- what serves a beat serves each that is not before it
   pub serves-later : (last beat : Float) (w : Stand) → le last beat ≡ true → Serves nums dens tempos last w → Serves nums dens tempos beat w
   serves-later last beat w e s =
-      let h = T-of (le last beat) e in
+      let h = holds (le last beat) e in
       record { own = s .later beat h; later = λ further k. s .later further (le-trans-float last beat further h k) }
 
   -- ---- the walk
@@ -67,5 +65,5 @@ module _ (nums : List ℤ) (dens tempos : List ℕ) (even : Parallel nums dens t
           on b answers u p = rw e (goes nums dens tempos (even .even-dens) (even .even-tempos) (stop b) (final b) i secs from tempo _ (answers p) h num reads at is next f u)
 
           not-stopped : (further : Float) → T (le beat further) → (b : Bool) → le further at ≡ b → le further at ≡ false
-          not-stopped further k true u = absurd (subst T t (le-trans-float beat further at k (T-of (le further at) u)))
+          not-stopped further k true u = absurd (subst T t (le-trans-float beat further at k (holds (le further at) u)))
           not-stopped further k false u = u

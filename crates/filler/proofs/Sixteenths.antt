@@ -11,17 +11,17 @@ use lib.Dec.{leb, ltb, lit<}
 use lib.ListN.{length}
 use lib.IntN.{ℤ, pos, natAbs, _*ℤ_}
 use lib.Pow.{pow-pos, pow-add}
-use Rattle.numbers.proofs.Laws.{by-order}
+use Rattle.numbers.proofs.Laws.{by-order, and-left, and-right}
 use Rattle.beats.specs.declared.Beat.{Beat}
 use Rattle.beats.specs.Beats.{isBeat}
 use Rattle.beats.specs.Values.{HasValue}
-use Rattle.beats.proofs.Laws.{own-value, value-same, beat-above, beat-lowest, den-divides, and-left, and-right}
+use Rattle.beats.proofs.Laws.{own-value, value-same, beat-above, beat-lowest, den-divides, sum-has}
 use Rattle.meter.specs.declared.MeterPoint.{MeterPoint}
 use Rattle.meter.specs.declared.Pickup.{Pickup}
 use Rattle.meter.specs.Meters.{later, lastAt, fallback, meterAt, barLen}
 use Rattle.meter.specs.Starts.{exactStart}
 use Rattle.meter.specs.Fits.{goodDen, soundFrom, firstZero, soundMap}
-use Rattle.meter.proofs.Laws.{exact-beat, sum-has, good-len, sixteenths, len-rest, later-in, later-out}
+use Rattle.meter.proofs.Laws.{exact-beat, good-len, sixteenths, len-rest, later-in, later-out}
 use Rattle.filler.proofs.Wide.{Dyadic}
 
 -- ---- powers of two

@@ -14,8 +14,8 @@ use lib.Ieee.Exact.{HasValue}
 use lib.Ieee.Back.{round-whole}
 use lib.Ieee.Order.{transfer}
 use lib.Ieee.Scale.{finite, grid, round-val, round-under, grid-scale, normal-of-fraction}
+use Rattle.rounding.proofs.Laws.{Up, round-up}
 use Rattle.beats.specs.Frames.{beatFloat}
-use Rattle.tempo.proofs.Laws.{Up, round-up}
 use Rattle.filler.proofs.Ordering.{quotient, finite-under, beat-is}
 
 -- ---- a numerator as a float

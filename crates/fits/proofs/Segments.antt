@@ -1,6 +1,6 @@
 -- Within one segment the last two starts decide: one of them lies an odd number of bars on, and no start before that one works with larger numbers.
 use mathlib.Core.Path.{_≡_, refl, sym, ap, _∙_}
-use mathlib.Core.Bool.{true, false}
+use mathlib.Core.Bool.{true}
 use Prim.Native.Nat.{ℕ, _+_, _-_, _*_, _<_, _≤_, _∣_}
 use native.Mathlib.Nat.{le-refl, le-trans, add-le-add, mul-pos, mul-le-mul-left, mul-le-mul-right}
 use native.Mathlib.Omega.{arith}
@@ -10,26 +10,20 @@ use lib.Signed.{leZ}
 use borrow.Author.Tests.{leb-true}
 use Rattle.numbers.specs.Answers.{Answer, accepted, refused}
 use Rattle.numbers.specs.Signs.{inI64}
-use Rattle.numbers.proofs.Laws.{by-order, up, down, up-times}
+use Rattle.numbers.proofs.Laws.{never, by-order, up, down, up-times, and-left, and-right, natural}
 use Rattle.beats.specs.declared.Beat.{Beat}
 use Rattle.beats.specs.Beats.{isBeat}
 use Rattle.beats.specs.Sums.{fitted, addBeats, mulBeat}
 use Rattle.beats.specs.Values.{HasValue}
-use Rattle.beats.proofs.Laws.{den-divides, beat-above, beat-lowest, accepted-beat, accepted-value, accepted-fits, scaled-value, and-left, and-right}
+use Rattle.beats.proofs.Laws.{den-divides, beat-above, beat-lowest, accepted-beat, accepted-value, accepted-fits, scaled-value, scaled, added, value-forward}
 use Rattle.meter.specs.declared.MeterPoint.{MeterPoint}
 use Rattle.meter.specs.Meters.{lenOf}
 use Rattle.meter.specs.Starts.{then, checkedBars}
 use Rattle.meter.specs.Fits.{goodDen, isAccepted}
-use Rattle.meter.proofs.Laws.{then-accepted, sixteenths, good-len, scaled, added, natural, value-forward}
+use Rattle.meter.proofs.Laws.{then-accepted, sixteenths, good-len}
 use Rattle.fits.proofs.Odd.{odd-den, odd-num, by-parity}
 
 -- ---- accepted answers
-
-pub never : {X : Type 0} → false ≡ true → X
-never e =
-    let z : _≡_ {A = ℕ} 0 1 = cc in
-    let w : ⊥ = omega arith in
-    absurd w
 
 pub accepted-some : {X : Type 0} (answer : Answer Beat) → isAccepted answer ≡ true → ((beat : Beat) → answer ≡ accepted beat → X) → X
 accepted-some (accepted beat) e k = k beat refl

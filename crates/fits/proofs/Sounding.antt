@@ -1,7 +1,7 @@
 -- A map is sound where each point that a scan of its words meets is: after i words, the points that are left give the same answer.
 use mathlib.Core.Path.{_≡_, refl, sym, ap, _∙_}
 use mathlib.Core.Bool.{Bool, true, false, _&&_}
-use Prim.Native.Nat.{ℕ, suc, _+_, _/_, _%_, _<_, _≤_}
+use Prim.Native.Nat.{ℕ, suc, _+_, _/_, _<_, _≤_}
 use mathlib.Core.List.{List}
 use native.Mathlib.Omega.{arith}
 use lib.Dec.{leb, ltb, eqb}
@@ -11,17 +11,6 @@ use Rattle.meter.specs.declared.MeterPoint.{MeterPoint}
 use Rattle.meter.specs.Meters.{pointsOf}
 use Rattle.meter.specs.Fits.{goodDen, firstZero, soundFrom, soundMap}
 use Rattle.meter.proofs.Laws.{left, points-step, points-end, points-length}
-
--- ---- a denominator
-
-pub zero-bad : (den : ℕ) → den ≡ 0 → false ≡ goodDen den
-zero-bad den e = sym (ap goodDen e)
-
-pub divides-good : (den : ℕ) → ((den ≡ 0) → ⊥) → eqb (64 % den) 0 ≡ goodDen den
-divides-good den f = sym (ap (λ (t : Bool). t && eqb (64 % den) 0) (lt-ltb 0 den (above den f)))
-  where
-    above : (k : ℕ) → ((k ≡ 0) → ⊥) → 0 < k
-    above k f = omega arith
 
 -- ---- a point
 

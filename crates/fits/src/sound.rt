@@ -1,19 +1,10 @@
 // Whether a meter map has no problems.
+use meter::bars::good_denominator;
 ghost use mathlib.Core.Path.{_≡_};
 ghost use mathlib.Core.Bool.{_&&_};
 ghost use lib.Dec.{leb, ltb};
 ghost use Rattle.meter.specs.Meters.{pointsOf};
 ghost use Rattle.meter.specs.Fits.{goodDen, firstZero, soundFrom, soundMap};
-
-// Whether it is a power of two up to 64.
-fn good_denominator(denominator: u32) -> bool
-    ensures { λ r. ⌜ r ≡ goodDen denominator ⌝ }
-{
-    if denominator == 0 {
-        return false;
-    }
-    64 % denominator == 0
-}
 
 // Whether a point is at least at the bar `low`, with a numerator and a good denominator.
 fn point(low: u64, bar: u32, numerator: u32, denominator: u32) -> bool

@@ -7,7 +7,7 @@ use meter::MeterPoint;
 use meter::Pickup;
 use meter::bars;
 ghost use mathlib.Core.Path.{_≡_};
-ghost use Prim.Native.Nat.{max, min, _<_};
+ghost use Prim.Native.Nat.{min, _<_};
 ghost use Rattle.beats.specs.Readings.{readBeat};
 ghost use Rattle.meter.specs.Meters.{pointsOf, fallback};
 ghost use Rattle.meter.specs.Starts.{then, checkedBars};
@@ -70,12 +70,6 @@ fn onward(at: BeatAnswer, meter: MeterPoint, bar: u32, end: u32) -> BeatAnswer
     }
 }
 
-fn larger(a: u32, b: u32) -> u32
-    ensures { λ r. ⌜ r ≡ max a b ⌝ }
-{
-    if a < b { b } else { a }
-}
-
 // A bar, or 2^31 for one behind it.
 fn limited(bar: u32) -> u32
     ensures { λ r. ⌜ r ≡ min bar lastBar ⌝ }
@@ -94,7 +88,7 @@ fn last_start(words: &[u32], default: u32, one: BeatAnswer) -> BeatAnswer
     while i + 2 < words.len() {
         let end = limited(words[i]);
         at = onward(at, meter, bar, end);
-        bar = larger(bar, end);
+        bar = numbers::larger(bar, end);
         meter = MeterPoint {
             bar: words[i],
             numerator: words[i + 1],

@@ -1,30 +1,18 @@
 -- The form of what was read from a file is the form of the file; a text put at the front counts as a part; and one byte more than the longest file is enough to read.
-use mathlib.Core.Path.{_≡_, refl, sym, ap, _∙_}
-use mathlib.Core.Bool.{Bool, true, false}
+use mathlib.Core.Path.{_≡_}
+use mathlib.Core.Bool.{true}
 use mathlib.Core.List.{List}
-use Prim.Native.Nat.{ℕ, _*_, _≤_, _<_}
-use native.Mathlib.Omega.{arith}
-use borrow.Author.Tests.{leb-true, leb-false}
-use lib.Dec.{leb}
+use Prim.Native.Nat.{ℕ, _*_, _<_}
 use lib.IntN.{ℤ}
 use lib.ListN.{length, take}
-use lib.Seq.{length-take-le, take-all}
 use Rattle.score.specs.declared.Score.{Score}
 use Rattle.score.specs.declared.ScoreAnswer.the-variants.{Read, BadFile}
 use Rattle.score.specs.Format.{isScore, scoreOf, meterWords, tempoNums, tempoDens, tempoBits}
 use Rattle.score.specs.Answers.{scoreAnswer, after}
 use Rattle.score.specs.Readings.{readScore}
-use Rattle.score.proofs.Laws.{bad-file, good-file, says, few-meters, few-tempos, meter-front, nums-front, dens-front, bits-front, too-long}
-use Rattle.text.specs.Texts.{Puts}
-use Rattle.text.proofs.Laws.{same}
+use Rattle.score.proofs.Laws as score
+use Rattle.score.proofs.Laws.{bad-file, good-file, says, meter-front, nums-front, dens-front, bits-front, too-long}
 use Rattle.form_text.specs.Forms.{formOf, refusalText, formText}
-
--- a text put at the front of bytes, and how many bytes it has
-pub counted : {r : ℕ} {t out now : List ℕ} → Puts 0 t out r now → r ≤ length out → (r ≤ length now) × (r ≡ length (take r now))
-counted {r} {t} {out} {now} x h =
-    let e : length now ≡ length out = same (omega (arith, x .next-is)) x in
-    let f : r ≤ length now = omega arith in
-    (f, sym (length-take-le r now f))
 
 module _ (b : List ℕ) where
   pub refusal-is : readScore BadFile ≡ scoreAnswer b → refusalText ≡ formText b
@@ -36,12 +24,6 @@ module _ (b : List ℕ) where
   good-is g = simp g
 
   module _ (s : Score) (e : readScore (Read s) ≡ scoreAnswer b) where
-    pub meters-few : s .meters ≤ 256
-    meters-few = rw (says b s e) (few-meters b (good-file b s e))
-
-    pub tempos-few : s .tempos ≤ 1024
-    tempos-few = rw (says b s e) (few-tempos b (good-file b s e))
-
     pub form-is : (meter₀ : List ℕ) (nums₀ : List ℤ) (dens₀ bpms₀ : List ℕ) {meter : List ℕ} {nums : List ℤ} {dens bpms : List ℕ}
         → meter ≡ after b (meterWords b) meter₀ → nums ≡ after b (tempoNums b) nums₀ → dens ≡ after b (tempoDens b) dens₀ → bpms ≡ after b (tempoBits b) bpms₀
         → formOf s (take (3 * s .meters) meter) (take (s .tempos) nums) (take (s .tempos) dens) (take (s .tempos) bpms) ≡ formText b
@@ -56,10 +38,4 @@ unfolding formText
 refused b h = simp (too-long b h)
 
 pub read-enough : (b : List ℕ) → formText (take 19505 b) ≡ formText b
-read-enough b = go (leb (length b) 19505) refl
-  where
-    go : (x : Bool) → leb (length b) 19505 ≡ x → formText (take 19505 b) ≡ formText b
-    go true e = ap formText (take-all 19505 b (leb-true (length b) 19505 e))
-    go false e =
-        let h : 19505 ≤ length b = omega (arith, leb-false (length b) 19505 e) in
-        refused (take 19505 b) (omega (arith, length-take-le 19505 b h)) ∙ sym (refused b (omega arith))
+read-enough = score.read-enough formText refusalText refused

@@ -1,5 +1,5 @@
 -- What a line of the text form says. Its first word is a key, and the key tells which words stand behind it.
-use mathlib.Core.Bool.{Bool, true, false, cond}
+use mathlib.Core.Bool.{cond}
 use mathlib.Core.List.{List, [], _∷_}
 use Prim.Native.Nat.{ℕ, _+_}
 use lib.Dec.{eqb}
@@ -12,7 +12,6 @@ use Rattle.spelling.specs.declared.TempoWord.{TempoWord}
 use Rattle.spelling.specs.declared.TempoWord.the-variants as T
 use Rattle.spelling.specs.Words.{numberOf, beatOf, tempoOf}
 use Rattle.splits.specs.Splits.{other, past, part, Few, single, double, neither, few, same}
-use Rattle.items.specs.declared.Reason.{Reason}
 use Rattle.items.specs.declared.Reason.the-variants.{Unknown, Words, NotNumber, NotBeat, NotLowest, NotTempo}
 use Rattle.items.specs.declared.values.Value.{Value}
 use Rattle.items.specs.declared.values.Value.the-variants as Val

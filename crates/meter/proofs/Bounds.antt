@@ -6,83 +6,24 @@ use Prim.Native.Nat.{ℕ, zero, suc, _+_, _-_, _*_, _/_, _%_, _<_, _≤_, _^_}
 use native.Mathlib.Nat.{add-zero, add-le-add, div-add-mod', div-le-self, le-trans, mul-comm, mul-pos, mul-le-mul, mul-le-mul-right}
 use native.Mathlib.Omega.{arith}
 use lib.Dec.{leb, ltb, eqb, lit<}
-use lib.IntN.{ℤ, pos, _*ℤ_, _+ℤ_}
+use lib.IntN.{ℤ, pos, _*ℤ_}
 use lib.Signed.{leZ}
 use lib.ListN.{length}
-use borrow.Author.Tests.{leb-true, ltb-true, eqb-true, le-leb}
+use borrow.Author.Tests.{leb-true, ltb-true, eqb-true}
 use Rattle.numbers.specs.Answers.{Answer, accepted}
-use Rattle.numbers.proofs.Laws.{by-order, up}
+use Rattle.numbers.proofs.Laws.{by-order, up, and-left, and-right, not-negative, natural}
 use Rattle.beats.specs.declared.Beat.{Beat}
-use Rattle.beats.specs.Beats.{newBeat, isBeat}
-use Rattle.beats.specs.Sums.{fitted, addBeats, mulBeat}
+use Rattle.beats.specs.Beats.{isBeat}
+use Rattle.beats.specs.Sums.{addBeats}
 use Rattle.beats.specs.Values.{HasValue}
-use Rattle.beats.proofs.Laws.{new-is-beat, new-value, own-value, value-same, beat-above, accepted-beat, sum-value, scaled-value, fit, and-left, and-right}
+use Rattle.beats.proofs.Laws.{Is, is-same, scaled, added, new-is-beat, new-value, own-value, beat-above, zero-beat}
 use Rattle.meter.specs.declared.MeterPoint.{MeterPoint}
 use Rattle.meter.specs.declared.Pickup.{Pickup}
 use Rattle.meter.specs.declared.Pickup.the-variants.{Absent, Present}
 use Rattle.meter.specs.Meters.{later, lastAt, fallback, meterAt, lenOf, barLen, nextChange}
 use Rattle.meter.specs.Starts.{zeroBeat, then, checkedBars, checkedSegments, checkedStart}
 use Rattle.meter.specs.Fits.{goodDen, soundFrom, firstZero, soundMap, forwardPickup, isAccepted, Fits, numeratorsUpTo, smallPickup}
-use Rattle.meter.proofs.Fractions.{not-negative, natural, value-forward, value-den, value-num, zero-beat}
 use Rattle.meter.proofs.Walking.{next-le, next-gt, later-in, later-out, len-rest, checked-end, checked-more}
-
--- ---- operations that are not refused
-
--- two natural numbers within the limits of a beat
-small-accepted : (n d : ℕ) → n ≤ 9223372036854775807 → d ≤ 4294967295 → fitted (pos n) d ≡ accepted (newBeat (pos n) d)
-small-accepted n d h k = sym (fit (pos n) d (λ i. le-leb n 9223372036854775807 h i && le-leb d 4294967295 k i))
-
--- a beat that is n / d
-pub record Is (beat : Beat) (n d : ℕ) : Type 0 where
-  pub fine : isBeat beat ≡ true
-  pub value : HasValue beat (pos n) d
-
-is-same : {beat : Beat} (n m d e : ℕ) → 0 < d → n * e ≡ m * d → Is beat n d → Is beat m e
-is-same {beat} n m d e above q b = record { fine = b .fine; value = value-same beat (pos n) (pos m) d e above (ap pos q) (b .value) }
-
--- a multiple
-module _ (a : Beat) (x d k : ℕ) (above : 0 < d) (p : Is a x d) (sized : x * k ≤ 9223372036854775807) (fine : d ≤ 4294967295) where
-  pub scaled : (c : Beat) × ((mulBeat a (pos k) 1 ≡ accepted c) × Is c (x * k) d)
-  scaled =
-      let u = up (a .num) in
-      let c = newBeat (pos (u * k)) (a .den * 1) in
-      let hu : u * k ≤ x * k = mul-le-mul-right k (value-num a x d above (p .value) (p .fine)) in
-      let e : mulBeat a (pos k) 1 ≡ accepted c
-      = ap (λ (z : ℤ). fitted (z *ℤ pos k) (a .den * 1)) (natural (a .num) (value-forward a x d above (p .value)))
-      ∙ small-accepted (u * k) (a .den * 1) (le-trans hu sized) (omega (arith, value-den a x d above (p .value) (p .fine))) in
-      (c, (e, record { fine = accepted-beat _ _ c e; value = scaled-value a c (pos x) (pos k) d (beat-above a (p .fine)) (p .value) e }))
-
--- a sum
-module _ (a b : Beat) (x y d e : ℕ) (hd : 0 < d) (he : 0 < e) (p : Is a x d) (q : Is b y e) (sized : x * e + y * d ≤ 9223372036854775807) (fine : d * e ≤ 4294967295) where
-  pub added : (c : Beat) × ((addBeats a b ≡ accepted c) × Is c (x * e + y * d) (d * e))
-  added =
-      let u = up (a .num) in
-      let w = up (b .num) in
-      let c = newBeat (pos (u * b .den + w * a .den)) (a .den * b .den) in
-      let pd = value-den a x d hd (p .value) (p .fine) in
-      let qd = value-den b y e he (q .value) (q .fine) in
-      let r : addBeats a b ≡ accepted c
-      = (λ i. fitted (natural (a .num) (value-forward a x d hd (p .value)) i *ℤ pos (b .den) +ℤ natural (b .num) (value-forward b y e he (q .value)) i *ℤ pos (a .den)) (a .den * b .den))
-      ∙ small-accepted (u * b .den + w * a .den) (a .den * b .den)
-      (le-trans (add-le-add (mul-le-mul (value-num a x d hd (p .value) (p .fine)) qd) (mul-le-mul (value-num b y e he (q .value) (q .fine)) pd)) sized)
-      (le-trans (mul-le-mul pd qd) fine) in
-      let pv : Is a (x * e) (d * e) = is-same x (x * e) d (d * e) hd (left x d e) p in
-      let qv : Is b (y * d) (d * e) = is-same y (y * d) e (d * e) he (right y d e) q in (
-        c,
-        (
-          r,
-          record {
-            fine = accepted-beat _ _ c r;
-            value = sum-value a b c (pos (x * e)) (pos (y * d)) (d * e) (beat-above a (p .fine)) (beat-above b (q .fine)) (pv .value) (qv .value) r;
-          },
-        ),
-      )
-    where
-      left : (i j k : ℕ) → i * (j * k) ≡ i * k * j
-      left i j k = omega arith
-
-      right : (i j k : ℕ) → i * (j * k) ≡ i * j * k
-      right i j k = omega arith
 
 -- ---- the meters
 

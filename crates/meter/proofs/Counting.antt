@@ -5,16 +5,17 @@ use mathlib.Core.List.{List}
 use Prim.Native.Nat.{ℕ, _<_, _≤_}
 use native.Mathlib.Omega.{arith}
 use borrow.Author.Tests.{not-true}
+use Rattle.numbers.proofs.Laws.{by-flag, not-both}
 use Rattle.beats.specs.declared.Beat.{Beat}
 use Rattle.beats.specs.Beats.{isBeat}
 use Rattle.beats.specs.Sums.{belowBeat}
+use Rattle.beats.proofs.Laws.{not-below}
 use Rattle.meter.specs.declared.MeterPoint.{MeterPoint}
 use Rattle.meter.specs.declared.Pickup.{Pickup}
 use Rattle.meter.specs.declared.count.Upper.{Upper}
 use Rattle.meter.specs.Starts.{zeroBeat, startOf}
 use Rattle.meter.specs.Counts.{doubling, within, searched, Least, reaches, countAt}
-use Rattle.meter.proofs.Searching.{by-flag, not-both, Stays, searched-least, searched-none}
-use Rattle.meter.proofs.Fractions.{not-below}
+use Rattle.meter.proofs.Searching.{Stays, searched-least, searched-none}
 
 module _ (map : List MeterPoint) (default : ℕ) (pickup : Pickup) (beat : Beat) where
   abbrev test : ℕ → Bool

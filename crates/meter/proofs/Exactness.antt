@@ -8,20 +8,18 @@ use native.Mathlib.Omega.{arith}
 use lib.IntN.{ℤ, pos, _+ℤ_, _*ℤ_}
 use lib.Signed.{leZ}
 use Rattle.numbers.specs.Answers.{Answer, accepted, refused}
-use Rattle.numbers.proofs.Laws.{by-order, down, eq-parts, sum-parts, up-times, down-times}
+use Rattle.numbers.proofs.Laws.{by-order, down, eq-parts, sum-parts, up-times, down-times, and-left, and-right, not-both, not-negative, grows}
 use Rattle.beats.specs.declared.Beat.{Beat}
 use Rattle.beats.specs.Beats.{isBeat}
-use Rattle.beats.specs.Sums.{addBeats, mulBeat, orMost, belowBeat}
+use Rattle.beats.specs.Sums.{addBeats, mulBeat, orMost, belowBeat, sumOf}
 use Rattle.beats.specs.Values.{HasValue}
-use Rattle.beats.proofs.Laws.{new-is-beat, own-value, one-beat, beat-above, accepted-beat, sum-value, scaled-value, same-value, and-left, and-right}
+use Rattle.beats.proofs.Laws.{new-is-beat, own-value, one-beat, beat-above, accepted-beat, sum-value, scaled-value, same-value, value-forward, zero-beat, own-value-left, sum-beat, sum-is, sum-has, below-values, below-same, not-below}
 use Rattle.meter.specs.declared.MeterPoint.{MeterPoint}
 use Rattle.meter.specs.declared.Pickup.{Pickup}
 use Rattle.meter.specs.declared.Pickup.the-variants.{Absent, Present}
 use Rattle.meter.specs.Meters.{meterAt, lenOf, barLen, nextChange}
-use Rattle.meter.specs.Starts.{zeroBeat, afterBars, segments, startOf, then, checkedBars, checkedSegments, checkedStart, sumOf, exactStart}
+use Rattle.meter.specs.Starts.{zeroBeat, afterBars, segments, startOf, then, checkedBars, checkedSegments, checkedStart, exactStart}
 use Rattle.meter.specs.Fits.{isAccepted, forwardPickup}
-use Rattle.meter.proofs.Searching.{not-both}
-use Rattle.meter.proofs.Fractions.{not-negative, grows, value-forward, zero-beat, value-right, sum-beat, sum-is, sum-has, below-values, below-same, not-below}
 use Rattle.meter.proofs.Walking.{next-le, next-gt, bars-stopped, len-rest, len-same, segments-end, segments-more, checked-end, checked-more}
 
 -- ---- whole numbers
@@ -93,7 +91,7 @@ module _ (map : List MeterPoint) (default : ℕ) (pickup : Pickup) where
         (subst (λ (z : ℤ). HasValue (exact (suc (i + n))) z den) (one-more from each n)
         (sum-has (exact (i + n)) (len (i + n)) (from +ℤ each *ℤ pos n) each den (beat-above (exact (i + n)) (exact-beat (i + n))) (beat-above (len (i + n)) (later-beat (i + n) (omega arith)))
         (exact-bars n (λ j p q. same j p (omega arith)))
-        (subst (λ (b : Beat). HasValue b each den) (sym (same (i + n) (omega arith) (omega arith))) (value-right (exact i) (len i)))))
+        (subst (λ (b : Beat). HasValue b each den) (sym (same (i + n) (omega arith) (omega arith))) (own-value-left (len i) (exact i .den)))))
 
     -- its end
     segment-end : (n : ℕ) (c : Beat) → ((j : ℕ) → i ≤ j → j < i + n → len j ≡ len i) → checkedBars (exact i) (len i) n ≡ accepted c → (c ≡ exact (i + n)) × (afterBars (exact i) (len i) n ≡ c)
@@ -103,7 +101,7 @@ module _ (map : List MeterPoint) (default : ℕ) (pickup : Pickup) where
         (λ span p q. (
           one-beat c (exact (i + n)) (from +ℤ each *ℤ pos n) den (mul-pos exact-above len-above) (accepted-beat _ _ c q) (exact-beat (i + n))
               (sum-value (exact i) span c from (each *ℤ pos n) den exact-above (beat-above span (accepted-beat _ _ span p)) (own-value (exact i) (len i .den))
-              (scaled-value (len i) span each (pos n) den len-above (value-right (exact i) (len i)) p) q)
+              (scaled-value (len i) span each (pos n) den len-above (own-value-left (len i) (exact i .den)) p) q)
               (exact-bars n same),
           bars-stopped (exact i) (len i) n ∙ ap (λ (x : Answer Beat). orMost (addBeats (exact i) (orMost x))) p ∙ ap orMost q,
         ))
@@ -189,7 +187,7 @@ module _ (map : List MeterPoint) (default : ℕ) (pickup : Pickup) (forward : fo
       let d = a .den * l .den in
       let p : 0 < a .den = beat-above a (exact-beat map default pickup bar) in
       let q : 0 < l .den = beat-above l (forward-beat map default pickup forward bar) in
-      below-values (sumOf a l) a (x +ℤ y) x d (beat-above (sumOf a l) (sum-beat a l)) p (mul-pos p q) (sum-has a l x y d p q (own-value a (l .den)) (value-right a l)) (own-value a (l .den))
+      below-values (sumOf a l) a (x +ℤ y) x d (beat-above (sumOf a l) (sum-beat a l)) p (mul-pos p q) (sum-has a l x y d p q (own-value a (l .den)) (own-value-left l (a .den))) (own-value a (l .den))
       ∙ grows x y (down-times (l .num) (a .den) ∙ ap (λ (n : ℕ). n * a .den) (forward-len map default pickup forward bar) ∙ zero-mul (a .den))
 
   exact-rises : (i n : ℕ) → belowBeat (exact map default pickup (i + n)) (exact map default pickup i) ≡ false

@@ -10,11 +10,11 @@ use lib.Signed.{leZ}
 use lib.ListN.{length}
 use borrow.Author.Tests.{leb-true}
 use Rattle.numbers.specs.Answers.{accepted}
-use Rattle.numbers.proofs.Laws.{by-order}
+use Rattle.numbers.proofs.Laws.{by-order, and-left, not-both}
 use Rattle.beats.specs.declared.Beat.{Beat}
 use Rattle.beats.specs.Beats.{isBeat}
 use Rattle.beats.specs.Sums.{belowBeat}
-use Rattle.beats.proofs.Laws.{is-fine, and-left}
+use Rattle.beats.proofs.Laws.{is-fine}
 use Rattle.meter.specs.declared.MeterPoint.{MeterPoint}
 use Rattle.meter.specs.declared.Pickup.{Pickup}
 use Rattle.meter.specs.declared.Pickup.the-variants.{Absent, Present}
@@ -26,7 +26,6 @@ use Rattle.meter.specs.Fits.{firstZero, soundFrom, soundMap, forwardPick
 use Rattle.meter.specs.Answers.{countAnswer}
 use Rattle.meter.specs.Promise.{arrives, FirstBar, CountPromise}
 use Rattle.meter.proofs.Scanning.{points-length}
-use Rattle.meter.proofs.Searching.{not-both}
 use Rattle.meter.proofs.Refusing.{passed}
 use Rattle.meter.proofs.Counting.{Rising, count-least, count-past}
 use Rattle.meter.proofs.Exactness.{exact-beat, start-exact, starts-rise}

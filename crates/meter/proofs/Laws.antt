@@ -18,12 +18,8 @@ pub use Rattle.meter.proofs.Exactness.{then-accepted, forward-beat, for
 -- each start of a score that fits is that sum, and the count is the first bar that starts at or after the beat
 pub use Rattle.meter.proofs.Counting.{Rising}
 pub use Rattle.meter.proofs.Fitting.{fit-exact, fit-rising, fit-least, fit-past, fit-first, count-keeps}
--- a bar of a meter without problems lasts a number of sixteenths; the sum of two values over one denominator
-pub use Rattle.meter.proofs.Bounds.{Is, sixteenths, good-len}
-pub use Rattle.meter.proofs.Fractions.{sum-has}
--- a multiple and a sum of beats that are not below 0 are accepted within the limits; a beat that is not below 0 is a natural number over its denominator
-pub use Rattle.meter.proofs.Bounds.{scaled, added}
-pub use Rattle.meter.proofs.Fractions.{natural, value-forward, zero-beat}
+-- a bar of a meter without problems lasts a number of sixteenths
+pub use Rattle.meter.proofs.Bounds.{sixteenths, good-len}
 -- bounds that suffice for a score to fit
 pub use Rattle.meter.proofs.Bounds.{suffices}
 -- the refusals of a map and of a pickup come before everything else

@@ -3,7 +3,6 @@ pub mod Walking
 pub mod Passing
 pub mod Searching
 pub mod Refusing
-pub mod Fractions
 pub mod Counting
 pub mod Exactness
 pub mod Readings

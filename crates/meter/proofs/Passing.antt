@@ -8,9 +8,8 @@ use native.Mathlib.Omega.{arith}
 use lib.Dec.{leb, ltb}
 use lib.ListN.{length, getD}
 use borrow.Author.Tests.{lt-ltb, le-ltb, leb-true, le-leb}
-use Rattle.numbers.proofs.Laws.{by-order}
+use Rattle.numbers.proofs.Laws.{by-order, and-left, and-right}
 use Rattle.beats.specs.declared.Beat.{Beat}
-use Rattle.beats.proofs.Laws.{and-left, and-right}
 use Rattle.meter.specs.declared.MeterPoint.{MeterPoint}
 use Rattle.meter.specs.declared.Pickup.{Pickup}
 use Rattle.meter.specs.Meters.{nearer, lastAt, fallback, meterAt, lenOf, barLen, nextChange}

@@ -6,21 +6,10 @@ use native.Mathlib.Nat.{pow-succ', le-mul-of-pos-right, pow-zero, zero-lt-suc, z
 use native.Mathlib.Omega.{arith}
 use lib.Pow.{pow-pos}
 use borrow.Author.Tests.{lt-ltb, le-ltb}
-use Rattle.numbers.proofs.Laws.{by-order}
+use Rattle.numbers.proofs.Laws.{by-flag, not-both, by-order}
 use Rattle.meter.specs.declared.count.Upper.{Upper}
 use Rattle.meter.specs.declared.count.Upper.the-variants.{Bar, Unsearched}
 use Rattle.meter.specs.Counts.{doubling, halving, within, searched, Least}
-
--- by the cases of a flag
-pub by-flag {ℓ} : {X : Type ℓ} (b : Bool) → (b ≡ true → X) → (b ≡ false → X) → X
-by-flag true f g = f refl
-by-flag false f g = g refl
-
-pub not-both : {X : Type 0} (b : Bool) → b ≡ true → b ≡ false → X
-not-both b p q = let z : _≡_ {A = ℕ} 0 1 = cc in absurd (lie z)
-  where
-    lie : _≡_ {A = ℕ} 0 1 → ⊥
-    lie z = omega arith
 
 -- up to 2^31, a test that a bar passes is passed by the bars from there on
 abbrev pub Stays : (ℕ → Bool) → Type 0

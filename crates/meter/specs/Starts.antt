@@ -1,13 +1,13 @@
 -- Where a bar starts: by segments of one meter, as document 01 has it, and as the plain sum of the lengths before it.
 use mathlib.Core.Bool.{Bool, true, false, cond, _&&_}
 use mathlib.Core.List.{List, [], _∷_}
-use Prim.Native.Nat.{ℕ, zero, suc, _-_, _*_}
+use Prim.Native.Nat.{ℕ, zero, suc, _-_}
 use lib.Dec.{ltb, leb}
-use lib.IntN.{pos, _+ℤ_, _*ℤ_}
+use lib.IntN.{pos}
 use Rattle.numbers.specs.Answers.{Answer, accepted, refused}
 use Rattle.beats.specs.declared.Beat.{Beat}
-use Rattle.beats.specs.Beats.{newBeat, wholeBeat}
-use Rattle.beats.specs.Sums.{addBeats, mulBeat, orMost}
+use Rattle.beats.specs.Beats.{wholeBeat}
+use Rattle.beats.specs.Sums.{addBeats, mulBeat, orMost, sumOf}
 use Rattle.meter.specs.declared.MeterPoint.{MeterPoint}
 use Rattle.meter.specs.declared.Pickup.{Pickup}
 use Rattle.meter.specs.declared.bars.Opening.{Opening}
@@ -78,10 +78,6 @@ module _ (map : List MeterPoint) (default : ℕ) (pickup : Pickup) where
   checkedStart (suc bar) = then (addBeats zeroBeat (barLen map default pickup 0)) (λ one. checkedSegments (suc bar) 1 (suc bar) one)
 
 -- ---- the plain sum, bar by bar, in whole numbers of any size
-
--- a + b, in lowest terms
-unfoldable pub sumOf : Beat → Beat → Beat
-sumOf a b = newBeat (a .num *ℤ pos (b .den) +ℤ b .num *ℤ pos (a .den)) (a .den * b .den)
 
 module _ (map : List MeterPoint) (default : ℕ) (pickup : Pickup) where
   -- the sum of the lengths of the bars before a bar

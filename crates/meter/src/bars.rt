@@ -5,16 +5,11 @@ use crate::Pickup;
 use beats::Beat;
 use beats::sums;
 ghost use mathlib.Core.Path.{_≡_};
-ghost use Prim.Native.Nat.{max, _<_};
+ghost use Prim.Native.Nat.{_<_};
 ghost use mathlib.Core.Bool.{true};
 ghost use Rattle.meter.specs.Meters.{pointsOf, fallback, later, meterAt, lenOf, barLen, nearer, nextChange};
+ghost use Rattle.meter.specs.Fits.{goodDen};
 ghost use Rattle.meter.specs.Starts.{afterBars, ending, startOf, ascends, openingOf};
-
-fn one_at_least(n: u32) -> u32
-    ensures { λ r. ⌜ r ≡ max n 1 ⌝ }
-{
-    if n == 0 { 1 } else { n }
-}
 
 // The meter where no point is in force: max(default, 1)/4.
 pub fn unlisted(default: u32) -> MeterPoint
@@ -22,9 +17,19 @@ pub fn unlisted(default: u32) -> MeterPoint
 {
     MeterPoint {
         bar: 0,
-        numerator: one_at_least(default),
+        numerator: numbers::larger(default, 1),
         denominator: 4,
     }
+}
+
+// Whether it is a power of two up to 64.
+pub fn good_denominator(denominator: u32) -> bool
+    ensures { λ r. ⌜ r ≡ goodDen denominator ⌝ }
+{
+    if denominator == 0 {
+        return false;
+    }
+    64 % denominator == 0
 }
 
 // The point, where it begins at or before the bar, and else `found`.
@@ -132,12 +137,6 @@ fn ascending(words: &[u32]) -> bool
     true
 }
 
-fn larger(a: u32, b: u32) -> u32
-    ensures { λ r. ⌜ r ≡ max a b ⌝ }
-{
-    if a < b { b } else { a }
-}
-
 // What every start begins with: the start of bar 1, and whether the map's bars ascend.
 pub struct Opening {
     pub ascending: bool,
@@ -189,7 +188,7 @@ fn by_pass(words: &[u32], default: u32, pickup: Pickup, one: Beat, bar: u32) -> 
             return up_to(at, meter, from, bar);
         }
         at = up_to(at, meter, from, change);
-        from = larger(from, change);
+        from = numbers::larger(from, change);
         meter = MeterPoint {
             bar: change,
             numerator: words[i + 1],

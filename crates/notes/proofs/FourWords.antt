@@ -1,8 +1,7 @@
 -- Laws on lists of words that several proofs cite.
 use mathlib.Core.List.{List, [], _∷_, _++_, append-assoc}
 use mathlib.Core.Path.{_≡_, ap, _∙_}
-use Prim.Native.Nat.{ℕ, suc, _+_, _*_, _^_, _≤_, _<_}
-use native.Mathlib.Nat.{lt-of-le-of-lt, le-of-lt, mul-le-mul-left, mul-lt-mul-of-pos-right}
+use Prim.Native.Nat.{ℕ, suc, _+_, _≤_}
 use native.Mathlib.Numerals.{add-one, add-two, add-three, add-four}
 use native.Mathlib.Omega.{arith}
 use lib.ListN.{length, take, drop, getD, set}
@@ -23,7 +22,3 @@ pub put-four : (l : List ℕ) (i : ℕ) → i + 4 ≤ length l → (a b c d : �
     → set (set (set (set l i a) (i + 1) b) (i + 2) c) (i + 3) d ≡ take i l ++ (a ∷ b ∷ c ∷ d ∷ drop (i + 4) l)
 put-four l i h a b c d =
     rw (add-one, add-two, add-three) (sets-eq (a ∷ b ∷ c ∷ d ∷ []) l i h ∙ append-assoc (take i l) _ _)
-
--- the product of two numbers that fit 32 bits fits 64
-pub product-fits : (a b : ℕ) → a < 2 ^ 32 → b < 2 ^ 32 → a * b < 2 ^ 64
-product-fits a b ha hb = lt-of-le-of-lt (mul-le-mul-left a (le-of-lt hb)) (mul-lt-mul-of-pos-right ha (omega arith))

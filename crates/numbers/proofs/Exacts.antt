@@ -6,15 +6,13 @@ use native.Mathlib.Nat.{mul-zero, zero-add, zero-mul, mul-le-mul, add-le-add, lt
 use native.Mathlib.Omega.{arith}
 use lib.Dec.{eqb, leb, lit<}
 use lib.Signed.{mag, natAbs-le}
-use lib.IntN.{ℤ, pos, negsuc, negℤ, natAbs, subℕ, _+ℤ_, _-ℤ_, _*ℤ_, negℤ-+ℤ, negℤ-negℤ}
+use lib.IntN.{ℤ, pos, negsuc, negℤ, natAbs, subℕ, _+ℤ_, _*ℤ_, negℤ-+ℤ, negℤ-negℤ}
 use borrow.Author.Tests.{lt-ltb, le-ltb, lt-leb, le-leb, ne-eqb}
 use Rattle.numbers.specs.declared.exact.Wide.{Wide}
 use Rattle.numbers.specs.declared.exact.Exact.{Exact}
-use Rattle.numbers.specs.declared.exact.Order.{Order}
-use Rattle.numbers.specs.declared.exact.Order.the-variants.{Less, Equal, Greater}
 use Rattle.numbers.specs.Signs.{isNeg, withSign}
 use Rattle.numbers.specs.Exacts.{sizeOf, wideOf}
-use Rattle.numbers.specs.Exacts.{valueOf, exactOf, orderOf, unlikeOrder}
+use Rattle.numbers.specs.Exacts.{valueOf, exactOf}
 use Rattle.numbers.proofs.Words.{words, size-wide, by-order}
 
 -- ---- a sign and a magnitude
@@ -103,59 +101,6 @@ abs-times (negsuc a) d = abs-sign true (suc a * d)
 pub neg-times : (x : ℤ) (d : ℕ) → 0 < d → isNeg (x *ℤ pos d) ≡ isNeg x
 neg-times (pos a) d h = refl
 neg-times (negsuc a) d h = neg-sign true (suc a * d) (λ e. omega arith)
-
--- ---- orders
-
-greater : (n : ℕ) → 0 < n → Greater ≡ orderOf (pos n)
-greater zero h = let z : ⊥ = omega arith in absurd z
-greater (suc n) h = refl
-
-module _ (a b : ℕ) where
-  pub order-less : a < b → Less ≡ orderOf (subℕ a b)
-  order-less h = rw (lt-ltb a b h)
-
-  pub order-greater : b < a → Greater ≡ orderOf (subℕ a b)
-  order-greater h = rw (le-ltb a b (omega arith)) (greater (a - b) (omega arith))
-
-  pub order-equal : a ≤ b → b ≤ a → Equal ≡ orderOf (subℕ a b)
-  order-equal h k =
-      let e : a - b ≡ 0 = omega arith in
-      rw (le-ltb a b k, e)
-
--- of two numbers below 0, and of two that are not
-pub neg-neg : (a b : ℕ) → withSign true a -ℤ withSign true b ≡ subℕ b a
-neg-neg a b = ap (λ (z : ℤ). withSign true a +ℤ z) (negℤ-negℤ (pos b)) ∙ neg+pos a b
-
--- of numbers whose signs differ
-pub neg-pos : (a b : ℕ) → orderOf (withSign true a -ℤ withSign false b) ≡ unlikeOrder Less (a + b)
-neg-pos a b = ap orderOf (neg+neg a b) ∙ by-sum (a + b)
-  where
-    by-sum : (n : ℕ) → orderOf (withSign true n) ≡ unlikeOrder Less n
-    by-sum zero = refl
-    by-sum (suc n) = refl
-
-pub pos-neg : (a b : ℕ) → orderOf (withSign false a -ℤ withSign true b) ≡ unlikeOrder Greater (a + b)
-pos-neg a b = ap (λ (z : ℤ). orderOf (pos a +ℤ z)) (negℤ-negℤ (pos b)) ∙ by-sum (a + b)
-  where
-    by-sum : (n : ℕ) → orderOf (pos n) ≡ unlikeOrder Greater n
-    by-sum zero = refl
-    by-sum (suc n) = refl
-
-pub sum-zero : {a b : ℕ} → a ≡ 0 → b ≡ 0 → a + b ≡ 0
-sum-zero e f = omega arith
-
-pub unlike-zero : (o : Order) (n : ℕ) → n ≡ 0 → Equal ≡ unlikeOrder o n
-unlike-zero o n e = rw e
-
-unlike-else : (o : Order) (n : ℕ) → ((n ≡ 0) → ⊥) → o ≡ unlikeOrder o n
-unlike-else o zero f = absurd (f refl)
-unlike-else o (suc n) f = refl
-
-pub unlike-left : (o : Order) (a b : ℕ) → ((a ≡ 0) → ⊥) → o ≡ unlikeOrder o (a + b)
-unlike-left o a b f = unlike-else o (a + b) (λ e. f (omega arith))
-
-pub unlike-right : (o : Order) (a b : ℕ) → ((b ≡ 0) → ⊥) → o ≡ unlikeOrder o (a + b)
-unlike-right o a b f = unlike-else o (a + b) (λ e. f (omega arith))
 
 -- ---- two words are 0
 

@@ -1,9 +1,13 @@
 pub mod Answers
+pub mod Flags
 pub mod Signs
+pub mod Bits
 pub mod Divisor
 pub mod Coprime
 pub mod Words
 pub mod Exacts
 pub mod Parts
 pub mod Orders
+pub mod Lists
+pub mod Writing
 pub mod Laws

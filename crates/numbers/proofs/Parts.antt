@@ -1,13 +1,15 @@
 -- ℤ for `omega`: each number has a part above zero and a part below, and an equation, an order, a sum or a product with a
 -- natural number is one of the parts. Assumes nothing.
 use mathlib.Core.Path.{_≡_, refl, sym, ap, _∙_}
-use Prim.Native.Nat.{ℕ, zero, suc, _+_, _-_, _*_, _<_}
-use native.Mathlib.Nat.{zero-mul, mul-lt-mul-of-pos-right, lt-of-mul-lt-mul-right, mul-comm, eq-of-mul-eq-mul-right}
+use mathlib.Core.Bool.{true, false}
+use Prim.Native.Nat.{ℕ, zero, suc, _+_, _-_, _*_, _<_, _≤_}
+use native.Mathlib.Nat.{zero-mul, mul-comm, eq-of-mul-eq-mul-right}
 use native.Mathlib.Omega.{arith}
-use lib.Dec.{T, ltb, ltb→lt, lt→ltb}
+use lib.Dec.{T, ltb→lt, lt→ltb}
 use lib.IntN.{ℤ, pos, negsuc, negℤ, subℕ, _+ℤ_, _-ℤ_, _*ℤ_, *ℤ-negsuc}
-use lib.Signed.{ltZ}
+use lib.Signed.{ltZ, leZ}
 use borrow.Author.Tests.{lt-ltb, le-ltb}
+use Rattle.numbers.proofs.Flags.{by-flag, never, holds}
 use Rattle.numbers.proofs.Words.{by-order}
 
 abbrev pub up : ℤ → ℕ
@@ -60,6 +62,24 @@ down-neg (pos zero) = refl
 down-neg (pos (suc n)) = refl
 down-neg (negsuc n) = refl
 
+-- a number that is not below zero is a natural number, and adding it does not go below
+pub not-negative : (z : ℤ) → leZ (pos 0) z ≡ true → down z ≡ 0
+not-negative (pos n) e = refl
+not-negative (negsuc n) e = never e
+
+pub natural : (z : ℤ) → down z ≡ 0 → z ≡ pos (up z)
+natural (pos n) e = refl
+natural (negsuc n) e = let z : ⊥ = omega arith in absurd z
+
+not-less : (x y : ℤ) → up y + down x ≤ up x + down y → ltZ x y ≡ false
+not-less x y h = by-flag (ltZ x y) (λ t. absurd (no (lt-parts x y (holds (ltZ x y) t)))) (λ t. t)
+  where
+    no : up x + down y < up y + down x → ⊥
+    no l = omega arith
+
+pub grows : (x y : ℤ) → down y ≡ 0 → ltZ (x +ℤ y) x ≡ false
+grows x y h = not-less (x +ℤ y) x (omega (arith, sum-parts x y))
+
 -- ---- products with a natural number
 
 pub up-times : (x : ℤ) (k : ℕ) → up (x *ℤ pos k) ≡ up x * k
@@ -81,17 +101,6 @@ pub sum-times : (x y : ℤ) (k : ℕ) → (x +ℤ y) *ℤ pos k ≡ x *ℤ pos k
 sum-times x y k =
     eq-parts ((x +ℤ y) *ℤ pos k) (x *ℤ pos k +ℤ y *ℤ pos k)
     (omega (arith, up-times (x +ℤ y) k, down-times (x +ℤ y) k, up-times x k, down-times x k, up-times y k, down-times y k, sum-parts (x *ℤ pos k) (y *ℤ pos k), ap (λ (n : ℕ). n * k) (sum-parts x y)))
-
-pub lt-times : (x y : ℤ) (k : ℕ) → 0 < k → T (ltZ x y) → T (ltZ (x *ℤ pos k) (y *ℤ pos k))
-lt-times x y k h t =
-    parts-lt (x *ℤ pos k) (y *ℤ pos k)
-    (omega (arith, up-times x k, down-times x k, up-times y k, down-times y k, mul-lt-mul-of-pos-right (lt-parts x y t) h))
-
-pub times-lt : (x y : ℤ) (k : ℕ) → T (ltZ (x *ℤ pos k) (y *ℤ pos k)) → T (ltZ x y)
-times-lt x y k t = parts-lt x y (lt-of-mul-lt-mul-right k m)
-  where
-    m : (up x + down y) * k < (up y + down x) * k
-    m = omega (arith, up-times x k, down-times x k, up-times y k, down-times y k, lt-parts (x *ℤ pos k) (y *ℤ pos k) t)
 
 pub lt-trans : (x y z : ℤ) → T (ltZ x y) → T (ltZ y z) → T (ltZ x z)
 lt-trans x y z s t = parts-lt x z (omega (arith, lt-parts x y s, lt-parts y z t))

@@ -1,17 +1,18 @@
 -- Laws of signs and magnitudes, and of what the machine reads back from a signed number's bits. Assumes nothing.
-use mathlib.Core.Path.{_≡_, refl, sym, ap, _∙_, subst}
-use mathlib.Core.Bool.{Bool, true, false, _&&_}
+use mathlib.Core.Path.{_≡_, refl, sym, ap, _∙_}
+use mathlib.Core.Bool.{Bool, true, false}
 use Prim.Native.Nat.{ℕ, zero, suc, _+_, _-_, _<_, _≤_, _^_, _/_, min}
 use native.Mathlib.Omega.{arith}
 use lib.IntN.{ℤ, pos, negsuc, negℤ, natAbs, _-ℤ_}
-use lib.Dec.{T, leb, leb→le, leb·suc-suc}
+use lib.Dec.{leb, leb·suc-suc}
 use lib.Signed.{mag, ltZ, quotZ}
 use native.Mathlib.Nat.{div-le-self}
-use borrow.Author.Tests.{le-ltb}
+use borrow.Author.Tests.{le-ltb, leb-true}
 use mir.Syntax.{w64}
 use mir.Val.{SFits, toZ, ofZ}
 use mir.ValLaws.{toZ-ofZ}
 use Rattle.numbers.specs.Signs.{isNeg, withSign, inI64, toI64, mostOf}
+use Rattle.numbers.proofs.Flags.{and-left, and-true}
 
 -- -1 - x turns -(n + 1) into n, and n into -(n + 1)
 pub flip-neg : (n : ℕ) → negsuc 0 -ℤ negsuc n ≡ pos n
@@ -79,22 +80,10 @@ stopped-twice true (suc n) =
     let e : min (suc n) 18446744073709551615 ≡ suc (min n 18446744073709551614) = omega arith in
     rw e (ap negsuc (omega arith))
 
-and-true : (b : Bool) → (b && true) ≡ b
-and-true true = refl
-and-true false = refl
-
 -- an i64 is not changed by stopping it
-stays : (b : Bool) → b ≡ true → T b
-stays b e = subst T (sym e) tt
-
 pub unstopped : (z : ℤ) → inI64 z ≡ true → toI64 z ≡ z
-unstopped (pos n) e = ap pos (omega (arith, leb→le n 9223372036854775807 (stays (leb n 9223372036854775807) e)))
-unstopped (negsuc n) e = ap negsuc (omega (arith, leb→le n 9223372036854775807 (stays (leb n 9223372036854775807) (sym (and-true (leb n 9223372036854775807)) ∙ e))))
-
--- what stopping answers is an i64
-pub stopped-fits : (z : ℤ) → SFits w64 (toI64 z)
-stopped-fits (pos n) = record { sfits = omega arith }
-stopped-fits (negsuc n) = record { sfits = omega arith }
+unstopped (pos n) e = ap pos (omega (arith, leb-true n 9223372036854775807 e))
+unstopped (negsuc n) e = ap negsuc (omega (arith, leb-true n 9223372036854775807 (and-left (leb n 9223372036854775807) true e)))
 
 -- whether a number with a sign is an i64
 pub in-i64 : (b : Bool) (n : ℕ) → inI64 (withSign b n) ≡ leb n (mostOf b)

@@ -1,15 +1,15 @@
 -- Numbers of two digits to any base m: sums, differences, the order, and products by columns. Assumes nothing.
 -- The base is a variable, since `omega` reads no number of more than 38 digits: the proofs apply these at 2 ^ 64.
 use mathlib.Core.Path.{_≡_, refl, sym, ap, _∙_}
-use Prim.Native.Nat.{ℕ, _+_, _-_, _*_, _/_, _%_, _^_, _<_, _≤_}
-use native.Mathlib.Nat.{mul-le-mul, mul-le-mul-right, lt-of-mul-lt-mul-right, lt-of-le-of-lt, div-add-mod', le-of-suc-le-suc}
+use Prim.Native.Nat.{ℕ, zero, suc, _+_, _-_, _*_, _/_, _%_, _^_, _<_, _≤_}
+use native.Mathlib.Nat.{mul-le-mul, mul-le-mul-left, mul-le-mul-right, mul-suc, mul-lt-mul-of-pos-right, le-of-lt, lt-of-mul-lt-mul-right, lt-of-le-of-lt, div-add-mod', le-of-suc-le-suc}
 use native.Mathlib.Numerals.{add-one}
 use native.Mathlib.Omega.{arith}
 use lib.Arith.{digits-div, digits-mod}
 use lib.Dec.{ltb}
-use mathlib.Core.Bool.{Bool, true, false}
 use borrow.Author.Tests.{lt-ltb, le-ltb, ltb-true, ltb-false}
 use Rattle.numbers.specs.Exacts.{sizeOf, wideOf}
+use Rattle.numbers.proofs.Flags.{by-flag}
 
 -- two words are the words of a number
 pub words : (n h l : ℕ) → l < 2 ^ 64 → n ≡ h * 2 ^ 64 + l → record { hi = h; lo = l } ≡ wideOf n
@@ -77,26 +77,31 @@ module _ {al bl : ℕ} (h : al < bl) (hb : bl < 2 ^ 64) where
 
 -- ---- tests
 
-pub ltb-same : (a b c d : ℕ) → (a < b → c < d) → (b ≤ a → d ≤ c) → ltb a b ≡ ltb c d
-ltb-same a b c d f g = go (ltb a b) refl
-  where
-    go : (t : Bool) → ltb a b ≡ t → t ≡ ltb c d
-    go true e = sym (lt-ltb c d (f (ltb-true a b e)))
-    go false e = sym (le-ltb c d (g (ltb-false a b e)))
-
 -- by the order of two numbers
 pub by-order {ℓ} : {X : Type ℓ} (a b : ℕ) → (a < b → X) → (b ≤ a → X) → X
-by-order {X} a b f g = go (ltb a b) refl
-  where
-    go : (t : Bool) → ltb a b ≡ t → X
-    go true e = f (ltb-true a b e)
-    go false e = g (ltb-false a b e)
+by-order a b f g = by-flag (ltb a b) (λ e. f (ltb-true a b e)) (λ e. g (ltb-false a b e))
+
+pub ltb-same : (a b c d : ℕ) → (a < b → c < d) → (b ≤ a → d ≤ c) → ltb a b ≡ ltb c d
+ltb-same a b c d f g = by-order a b (λ h. lt-ltb a b h ∙ sym (lt-ltb c d (f h))) (λ h. le-ltb a b h ∙ sym (le-ltb c d (g h)))
 
 -- the second digits decide where the first are the same
 pub second-decides : (m ah al bh bl : ℕ) → ah ≤ bh → bh ≤ ah → ltb al bl ≡ ltb (ah * m + al) (bh * m + bl)
 second-decides m ah al bh bl p q =
     let e : ah ≡ bh = omega arith in
     rw e (ltb-same al bl (bh * m + al) (bh * m + bl) (λ h. omega arith) (λ h. omega arith))
+
+-- the product of two numbers that fit 32 bits fits 64
+pub product-fits : (a b : ℕ) → a < 2 ^ 32 → b < 2 ^ 32 → a * b < 2 ^ 64
+product-fits a b ha hb = lt-of-le-of-lt (mul-le-mul-left a (le-of-lt hb)) (mul-lt-mul-of-pos-right ha (omega arith))
+
+-- a factor of nothing is nothing, where the other is not
+pub factor-zero : (a b : ℕ) → 0 < b → a * b ≡ 0 → a ≡ 0
+factor-zero zero b h e = refl
+factor-zero (suc a) b h e = let z : ⊥ = omega arith in absurd z
+
+-- one more of i parts of n each is within t of them
+pub one-more : (n i t : ℕ) → i < t → n * i + n ≤ n * t
+one-more n i t h = rw mul-suc at (mul-le-mul-left n h)
 
 -- ---- the product, by columns
 

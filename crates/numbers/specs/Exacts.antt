@@ -28,8 +28,3 @@ abbrev pub orderOf : ℤ → Order
 orderOf (negsuc n) = Less
 orderOf (pos zero) = Equal
 orderOf (pos (suc n)) = Greater
-
--- the order of two numbers whose signs differ, by the sum of their sizes: the one that the signs give, unless both are 0
-abbrev pub unlikeOrder : Order → ℕ → Order
-unlikeOrder by-sign zero = Equal
-unlikeOrder by-sign (suc n) = by-sign

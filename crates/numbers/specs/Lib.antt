@@ -1,4 +1,5 @@
 pub mod Answers
 pub mod Signs
+pub mod Bits
 pub mod Divisor
 pub mod Exacts

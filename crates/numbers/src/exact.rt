@@ -1,11 +1,11 @@
-// Exact products of 64 by 64 bits, their sums and their order: a sign and two words, where the
+// Exact products of 64 by 64 bits and their sums: a sign and two words, where the
 // original has an i128.
 ghost use mathlib.Core.Path.{_≡_};
 ghost use Prim.Native.Nat.{min, _+_, _-_, _*_, _^_, _<_, _≤_};
 ghost use lib.Dec.{ltb, eqb};
-ghost use lib.IntN.{pos, subℕ, negℤ, _+ℤ_, _-ℤ_, _*ℤ_};
+ghost use lib.IntN.{pos, subℕ, _+ℤ_, _-ℤ_, _*ℤ_};
 ghost use Rattle.numbers.specs.Signs.{withSign, mostOf, inI64, toI64};
-ghost use Rattle.numbers.specs.Exacts.{sizeOf, wideOf, valueOf, exactOf, orderOf, unlikeOrder};
+ghost use Rattle.numbers.specs.Exacts.{sizeOf, wideOf, valueOf, exactOf};
 
 // The number hi * 2^64 + lo.
 pub struct Wide {
@@ -113,19 +113,6 @@ impl Wide {
         let hi = self.hi;
         let lo = self.lo;
         if hi == 0 { lo } else { MOST }
-    }
-
-    // Where self stands to b.
-    pub fn order(self, b: Wide) -> Order
-        ensures { λ r. ⌜ r ≡ orderOf (subℕ (sizeOf self) (sizeOf b)) ⌝ }
-    {
-        if self.below(b) {
-            Order::Less
-        } else if b.below(self) {
-            Order::Greater
-        } else {
-            Order::Equal
-        }
     }
 }
 
@@ -235,29 +222,6 @@ impl Exact {
         Exact::of_products(a, b, c, true, d)
     }
 
-    // Where self stands to b.
-    pub fn order(self, b: Exact) -> Order
-        ensures { λ r. ⌜ r ≡ orderOf (valueOf self -ℤ valueOf b) ⌝ }
-    {
-        let an = self.neg;
-        let bn = b.neg;
-        let p = self.size;
-        let q = b.size;
-        if an {
-            if bn {
-                q.order(p)
-            } else {
-                unlike(Order::Less, p, q)
-            }
-        } else {
-            if bn {
-                unlike(Order::Greater, p, q)
-            } else {
-                p.order(q)
-            }
-        }
-    }
-
     // Whether the number is an i64.
     pub fn in_i64(self) -> bool
         ensures { λ r. ⌜ r ≡ inI64 (valueOf self) ⌝ }
@@ -275,23 +239,4 @@ impl Exact {
         let size = self.size;
         crate::signed(neg, size.or_most())
     }
-}
-
-// The order of two numbers of unlike signs: `signs`, unless both are 0.
-fn unlike(signs: Order, p: Wide, q: Wide) -> Order
-    ensures { λ r. ⌜ r ≡ unlikeOrder signs (sizeOf p + sizeOf q) ⌝ }
-{
-    if p.is_zero() {
-        if q.is_zero() {
-            return Order::Equal;
-        }
-    }
-    signs
-}
-
-// Where a * b stands to c * d.
-pub fn order_of_products(a: i64, b: u64, c: i64, d: u64) -> Order
-    ensures { λ r. ⌜ r ≡ orderOf (a *ℤ pos b -ℤ c *ℤ pos d) ⌝ }
-{
-    Exact::times(a, false, b).order(Exact::times(c, false, d))
 }

@@ -1,9 +1,10 @@
-// Whole numbers for exact music: signs, sums and products that stop at the end of 64 bits, and the
+// Whole numbers for exact music: signs, two's complement, sums and products that stop at the end of 64 bits, and the
 // greatest common divisor. Exact products and sums past 64 bits are in `exact`.
 ghost use mathlib.Core.Path.{_≡_};
-ghost use Prim.Native.Nat.{min, _+_, _*_, _^_, _-_};
+ghost use Prim.Native.Nat.{min, max, _+_, _*_, _^_, _-_};
 ghost use lib.IntN.{natAbs};
 ghost use Rattle.numbers.specs.Signs.{isNeg, withSign, toI64};
+ghost use Rattle.numbers.specs.Bits.{signedOf, bitsOf};
 ghost use Rattle.numbers.specs.Divisor.{gcdOf};
 use crate::exact::Wide;
 
@@ -49,6 +50,35 @@ pub fn signed(neg: bool, size: u64) -> i64
     } else {
         below_half(size) as i64
     }
+}
+
+// The number that 64 bits are in two's complement.
+pub fn as_signed(bits: u64) -> i64
+    ensures { λ r. ⌜ r ≡ signedOf bits ⌝ }
+{
+    if bits < 0x8000_0000_0000_0000 {
+        signed(false, bits)
+    } else {
+        signed(true, MOST - bits + 1)
+    }
+}
+
+// The 64 bits that a number is in two's complement.
+pub fn as_bits(x: i64) -> u64
+    ensures { λ r. ⌜ r ≡ bitsOf x ⌝ }
+{
+    if negative(x) {
+        MOST - (magnitude(x) - 1)
+    } else {
+        magnitude(x)
+    }
+}
+
+// The larger of two numbers.
+pub fn larger(a: u32, b: u32) -> u32
+    ensures { λ r. ⌜ r ≡ max a b ⌝ }
+{
+    if a < b { b } else { a }
 }
 
 // a + b, or 2^64 - 1 where that is less.

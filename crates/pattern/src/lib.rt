@@ -95,7 +95,7 @@ pub fn layer(a: Pattern, words: &[u32], b: Pattern, more: &[u32], out: &mut [u32
     }
     joining::join(words, more, 0, out);
     notes::sorting::sort_by_step(&mut out[..size]);
-    answers::wrote(size, steps::larger(a.bars, b.bars))
+    answers::wrote(size, numbers::larger(a.bars, b.bars))
 }
 
 // A part of a pattern, or all of it at another speed.

@@ -1,6 +1,6 @@
 -- From what the passes say to the answer of a call.
 use mathlib.Core.Path.{_≡_}
-use mathlib.Core.Bool.{Bool, true, false}
+use mathlib.Core.Bool.{Bool, true}
 use mathlib.Core.List.{List, []}
 use Prim.Native.Nat.{ℕ, _/_, _≤_, _<_}
 use native.Mathlib.Omega.{arith}
@@ -19,9 +19,6 @@ use Rattle.problems.proofs.Wholes.{tempo-few}
 -- a pass that counts is ready, and one that writes where there is room
 pub ready : (writing : Bool) (out : List ℕ) (problems : List Problem) → length problems ≤ 327680 → (writing ≡ true → length problems ≤ length out / 3) → Ready writing out 0 problems
 ready writing out problems few room = record { fits = omega arith; room = λ w. omega (arith, room w) }
-
-pub never : {A : Type 0} → false ≡ true → A
-never e = let z : _≡_ {A = ℕ} 0 1 = cc in absurd (omega arith)
 
 -- ---- there is no room, or there is
 

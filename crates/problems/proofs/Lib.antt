@@ -1,6 +1,5 @@
 pub mod Again
 pub mod Calls
-pub mod Denominators
 pub mod Laws
 pub mod Listing
 pub mod Passing

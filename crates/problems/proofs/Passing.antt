@@ -2,11 +2,12 @@
 use mathlib.Core.Path.{_≡_, refl, sym, ap, _∙_}
 use mathlib.Core.Bool.{Bool, true, false, cond}
 use mathlib.Core.List.{List, [], _∷_, _++_}
-use Prim.Native.Nat.{ℕ, suc, _+_, _*_, _/_, _≤_}
-use native.Mathlib.Nat.{zero-add, add-zero, add-suc, suc-add}
+use Prim.Native.Nat.{ℕ, _+_, _*_, _/_, _≤_}
+use native.Mathlib.Nat.{zero-add, add-zero}
 use native.Mathlib.Omega.{arith}
-use lib.ListN.{length, set, drop, length-append}
+use lib.ListN.{length, drop, length-append}
 use lib.Seq.{sets, length-sets, sets-eq}
+use Rattle.numbers.proofs.Laws.{sets-append}
 use Rattle.problems.specs.Problems.{Problem, when, flat}
 use Rattle.problems.specs.Passes.{put, Ready, Passed}
 
@@ -21,10 +22,6 @@ flat-append : (xs ys : List Problem) → flat (xs ++ ys) ≡ flat xs ++ flat ys
 unfolding flat
 flat-append [] ys = refl
 flat-append (x ∷ xs) ys = ap (λ (l : List ℕ). x .code ∷ x .index ∷ x .value ∷ l) (flat-append xs ys)
-
-sets-append : (out : List ℕ) (at : ℕ) (vs ws : List ℕ) → sets out at (vs ++ ws) ≡ sets (sets out at vs) (at + length vs) ws
-sets-append out at [] ws = ap (λ (n : ℕ). sets out n ws) (sym (add-zero at))
-sets-append out at (v ∷ vs) ws = sets-append (set out at v) (suc at) vs ws ∙ ap (λ (n : ℕ). sets (sets (set out at v) (suc at) vs) n ws) (suc-add at (length vs) ∙ sym (add-suc at (length vs)))
 
 -- ---- parts of a pass
 

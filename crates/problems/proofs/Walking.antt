@@ -11,21 +11,18 @@ use lib.Dec.{leb, eqb}
 use lib.ListN.{length, getD, drop, drop-of-length-le}
 use lib.Seq.{drop-cons}
 use Rattle.numbers.specs.Answers.{Answer, accepted, refused}
+use Rattle.numbers.proofs.Laws.{never, both}
 use Rattle.meter.specs.declared.MeterPoint.{MeterPoint}
 use Rattle.problems.specs.declared.walk.State.{State}
 use Rattle.problems.specs.Problems.{Problem, meterPoints, meterProblems, written}
 use Rattle.problems.specs.Answers.{counted, meterAnswer, meterAfter}
 use Rattle.problems.specs.Passes.{Passed, Walks, put, pointOf, meterFrom, begun, restarts, here, stepped, finished}
-use Rattle.problems.proofs.Calls.{ready, never, too-many, enough}
+use Rattle.problems.proofs.Calls.{ready, too-many, enough}
 use Rattle.problems.proofs.Passing.{Passing, begin, ready-next, on, done, passed-none}
 use Rattle.problems.proofs.Wholes.{meter-whole, meter-few}
 
 abbrev pub zeros : MeterPoint
 zeros = pointOf 0 0 0
-
-parts : (a b : Bool) → (a && b) ≡ true → (a ≡ true) × (b ≡ true)
-parts true b e = (refl, e)
-parts false b e = (e, cc)
 
 -- how many turns are left at most
 abbrev pub turns : State → ℕ
@@ -116,12 +113,12 @@ module _ (points : List MeterPoint) (out : List ℕ) where
       -- where the walk restarts, the first pass has counted all records, and there is room for them
       restarted : restarts s count ≡ true → (s .writing ≡ false) × (length whole ≤ s .room)
       restarted h = (
-        not-true (s .writing) (parts (not (s .writing)) (leb count (s .room)) (all .1) .0),
-        omega (arith, passed .sum, ap length (none-left (eqb-true (s .at + 1) (s .n) (all .0))), leb-true count (s .room) (parts (not (s .writing)) (leb count (s .room)) (all .1) .1)),
+        not-true (s .writing) (both (not (s .writing)) (leb count (s .room)) (all .1) .0),
+        omega (arith, passed .sum, ap length (none-left (eqb-true (s .at + 1) (s .n) (all .0))), leb-true count (s .room) (both (not (s .writing)) (leb count (s .room)) (all .1) .1)),
       )
         where
           all : (eqb (s .at + 1) (s .n) ≡ true) × ((not (s .writing) && leb count (s .room)) ≡ true)
-          all = parts (eqb (s .at + 1) (s .n)) (not (s .writing) && leb count (s .room)) h
+          all = both (eqb (s .at + 1) (s .n)) (not (s .writing) && leb count (s .room)) h
 
       -- where the first pass ends and the walk does not restart, there is none
       went-on : restarts s count ≡ false → s .writing ≡ false → s .n ≤ s .at + 1 → s .room < count

@@ -2,9 +2,9 @@
 // records, and where there is room for them the second writes them.
 use crate::ProblemsAnswer;
 use crate::records;
+use meter::bars::good_denominator;
 ghost use mathlib.Core.Path.{_≡_};
 ghost use Prim.Native.Nat.{_<_};
-ghost use Rattle.meter.specs.Fits.{goodDen};
 ghost use Rattle.problems.specs.Problems.{meterPoint};
 ghost use Rattle.problems.specs.Passes.{Ready, Passed, Walks, put, pointOf, meterHead, meterAt, begun, restarts, turned, here, stepped, finished};
 ghost use Rattle.problems.specs.Readings.{readProblems};
@@ -19,16 +19,6 @@ pub struct State {
     // one more than the bar before
     pub low: u64,
     pub count: u32,
-}
-
-// Whether it is a power of two up to 64.
-fn good_denominator(denominator: u32) -> bool
-    ensures { λ r. ⌜ r ≡ goodDen denominator ⌝ }
-{
-    match denominator {
-        1 | 2 | 4 | 8 | 16 | 32 | 64 => true,
-        _ => false,
-    }
 }
 
 // The records of the map, at its first point.

@@ -1,7 +1,5 @@
 -- What crates above may use of this one.
 
--- the product of two words fits 64 bits
-pub use Rattle.rhythm.proofs.Sums.{product-fits}
 -- a remainder is below its total, and differs from the number by whole totals
 pub use Rattle.rhythm.proofs.Remainders.{laps, remainder-below, remainder-laps}
 -- copies: how many notes they are, and that moving by no step changes nothing

@@ -2,7 +2,7 @@
 use mathlib.Core.List.{List, [], _∷_, _++_, map}
 use mathlib.Core.Path.{_≡_, refl, sym, ap, _∙_}
 use Prim.Native.Nat.{ℕ, zero, suc, _+_, _*_, _-_, _%_, _^_, _≤_, _<_, min}
-use native.Mathlib.Nat.{mul-suc, suc-mul, mul-zero, mul-le-mul-left, mul-assoc, sub-zero}
+use native.Mathlib.Nat.{mul-suc, suc-mul, mul-zero, mul-assoc, sub-zero}
 use native.Mathlib.Numerals.{add-one}
 use native.Mathlib.Omega.{arith}
 use lib.ListN.{length, getD, length-append, length-map}
@@ -22,10 +22,6 @@ capped-later x = λ j. λ n. record { step = same (n .step) j; len = n .len; gai
 -- one stride more, stopped
 pub capped-more : (i s off s′ : ℕ) → off ≡ min (i * s) mostStep → s′ ≡ min s mostStep → min (off + s′) mostStep ≡ min ((i + 1) * s) mostStep
 capped-more i s off s′ e f = let m : (i + 1) * s ≡ i * s + s = rw (add-one i) (suc-mul i s) in rw m (omega arith)
-
--- a turn's copy is within the room of all
-pub within : (n i t : ℕ) → i < t → n * i + n ≤ n * t
-within n i t h = rw mul-suc at (mul-le-mul-left n h)
 
 -- what is written in the turn at i, and what is left
 pub copies-turn : (ws : List ℕ) (stride i t off : ℕ) → i < t → off ≡ min (i * stride) mostStep

@@ -2,7 +2,7 @@
 use mathlib.Core.Bool.{true, false}
 use mathlib.Core.Path.{_≡_, refl, ap}
 use Prim.Native.Nat.{ℕ, zero, suc, _+_, _-_, _*_, _/_, _%_, _^_, _≤_, _<_}
-use native.Mathlib.Nat.{lt-of-le-of-lt, le-of-lt, mul-le-mul-left, mul-lt-mul-of-pos-right, mod-lt, div-add-mod', div-mul-le-self, lt-div-mul-add}
+use native.Mathlib.Nat.{mod-lt, div-add-mod', div-mul-le-self, lt-div-mul-add}
 use native.Mathlib.Omega.{arith}
 use lib.IntN.{ℤ, pos, negsuc, natAbs, _+ℤ_}
 use lib.Signed.{mag}
@@ -11,10 +11,6 @@ use Rattle.numbers.specs.Signs.{withSign}
 use Rattle.rounding.specs.Floats.{halfUp}
 use Rattle.rounding.proofs.Laws.{Nearest, nearest, nearest-one}
 use Rattle.rhythm.specs.Values.{remainder}
-
--- the product of two numbers that fit 32 bits fits 64
-pub product-fits : (a b : ℕ) → a < 2 ^ 32 → b < 2 ^ 32 → a * b < 2 ^ 64
-product-fits a b ha hb = lt-of-le-of-lt (mul-le-mul-left a (le-of-lt hb)) (mul-lt-mul-of-pos-right ha (omega arith))
 
 -- ---- the remainder of step + size, and of step - size
 

@@ -54,7 +54,7 @@ pub fn fill(how: Spread, count: u32, len: u32, tag: u32, out: &mut [u32])
     requires { ⌜ Held how count × (4 * count ≤ length (now out)) ⌝ }
     ensures { λ _. ⌜ now (out .exit) ≡ wordsOf (row (hitAt how len tag) 0 count) ++ drop (4 * count) (now (out .entry)) ⌝ }
 {
-    let long = steps::larger(len, 1);
+    let long = numbers::larger(len, 1);
     let mut k: u32 = 0;
     let mut o = 0;
     while k < count {

@@ -5,12 +5,6 @@ ghost use lib.IntN.{pos, _+ℤ_};
 ghost use Rattle.numbers.specs.Signs.{withSign};
 ghost use Rattle.rhythm.specs.Values.{mostStep, laterStep, stretchedBy, remainder, rotatedStep, mirroredStep, snappedStep, scaledGain, gatedLen, barsFor};
 
-pub fn larger(a: u32, b: u32) -> u32
-    ensures { λ r. ⌜ r ≡ max a b ⌝ }
-{
-    if a < b { b } else { a }
-}
-
 // a + b bars.
 pub fn sum_bars(a: u32, b: u32) -> u32
     ensures { λ r. ⌜ r ≡ min (a + b) mostStep ⌝ }
@@ -28,16 +22,16 @@ pub fn times_bars(bars: u32, times: u32) -> u32
 pub fn total(bars: u32, steps_per_bar: u32) -> u64
     ensures { λ r. ⌜ r ≡ bars * max «steps_per_bar» 1 ⌝ }
 {
-    bars as u64 * larger(steps_per_bar, 1) as u64
+    bars as u64 * numbers::larger(steps_per_bar, 1) as u64
 }
 
 // The bars that hold a number of steps, at least 1.
 pub fn bars_for(steps: u32, steps_per_bar: u32) -> u32
     ensures { λ r. ⌜ r ≡ barsFor steps «steps_per_bar» ⌝ }
 {
-    let bar = larger(steps_per_bar, 1) as u64;
+    let bar = numbers::larger(steps_per_bar, 1) as u64;
     let bars = (steps as u64 + (bar - 1)) / bar;
-    larger(numbers::to_u32(bars), 1)
+    numbers::larger(numbers::to_u32(bars), 1)
 }
 
 // A number of steps, or 2^32 - 1 where that is less: no step goes beyond it.
@@ -108,7 +102,7 @@ pub fn mirrored(step: u32, len: u32, total: u64) -> u32
 pub fn snapped(step: u32, grid: u32) -> u32
     ensures { λ r. ⌜ r ≡ snappedStep grid step ⌝ }
 {
-    let g = larger(grid, 1) as u64;
+    let g = numbers::larger(grid, 1) as u64;
     numbers::to_u32((step as u64 + g / 2) / g * g)
 }
 
@@ -122,5 +116,5 @@ pub fn gated(len: u32, factor: f32) -> u32
     ensures { λ r. ⌜ r ≡ gatedLen factor len ⌝ }
 {
     let rounded = rounding::round_to_u32(std::num::nearest_u32_to_f32(len) * factor);
-    larger(rounded, 1)
+    numbers::larger(rounded, 1)
 }

@@ -1,13 +1,11 @@
 -- Both sides of the edges, worked out: a table's rows are a question, by its words, and the answer. Each table is one statement, closed by computing.
-use mathlib.Core.Path.{_≡_, refl}
-use mathlib.Core.List.{List, [], _∷_, map}
+use mathlib.Core.Path.{refl}
+use mathlib.Core.List.{List, [], _∷_}
 use Prim.Native.Nat.{ℕ}
 use lib.IntN.{ℤ, pos, negsuc}
 use lib.Ieee.{binary32, binary64, ofBits, toBits, round, lt, isNan, toUnsigned, toSigned}
+use Rattle.numbers.proofs.Laws.{Agree}
 use Rattle.rounding.specs.Floats.{roundAway, floorOf, maximum, clamp, float0, float1}
-
-abbrev Agree : {A B : Type 0} → (A → B) → List (A × B) → Type 0
-Agree f table = map f (map (λ row. row .0) table) ≡ map (λ row. row .1) table
 
 -- ---- an f64, rounded, as a u64 and as an i64
 

@@ -8,7 +8,7 @@ use native.Mathlib.Numerals.{lt-add-one}
 use native.Mathlib.Omega.{arith}
 use borrow.Author.Tests.{ltb-true, ltb-false}
 use lib.IntN.{ℤ, pos, negsuc}
-use lib.Dec.{T, ltb, leb, eqb, ltb→lt, lit<}
+use lib.Dec.{T, ltb, leb, eqb, ltb→lt, leb→le, lit<}
 use lib.Pow.{pow-add, pow-pos}
 use lib.Ieee.{Float, nan, inf, fin, Format, binary64, prec, emax, low, up, down, fits, lt, neg, odd, units, round, ofInt, toUnsigned}
 use lib.Ieee.Fits.{and-l, and-r, down-pos, round-is, round-fits}
@@ -41,16 +41,22 @@ no-more n d k p lo = up-to k n (lt-of-mul-lt-mul-right d (lt-of-lt-of-le lo (le-
     up-to : (k n : ℕ) → k < n + 1 → k ≤ n
     up-to k n h = omega arith
 
--- ---- a float without a fraction is what rounding makes of its whole number
+-- ---- a float that the format holds has few digits, is a multiple of the least, and is below the top
 
 module _ (f : Format) (s : Bool) (m : ℕ) (e : ℤ) (held : T (fits f (fin s (suc m) e))) where
-  few : suc m < 2 ^ prec f
+  pub few : suc m < 2 ^ prec f
   unfolding fits
   few = ltb→lt (suc m) (2 ^ prec f) (and-r (eqb (suc m % 2) 1) (ltb (suc m) (2 ^ prec f)) (and-l (eqb (suc m % 2) 1 && ltb (suc m) (2 ^ prec f)) (leb (down e) (2 ^ low f)) (and-l (eqb (suc m % 2) 1 && ltb (suc m) (2 ^ prec f) && leb (down e) (2 ^ low f)) (ltb (suc m * up e) (2 ^ suc (emax f) * down e)) held)))
 
-  under-top : suc m * up e < 2 ^ suc (emax f) * down e
+  pub coarse : down e ≤ 2 ^ low f
+  unfolding fits
+  coarse = leb→le (down e) (2 ^ low f) (and-r (eqb (suc m % 2) 1 && ltb (suc m) (2 ^ prec f)) (leb (down e) (2 ^ low f)) (and-l (eqb (suc m % 2) 1 && ltb (suc m) (2 ^ prec f) && leb (down e) (2 ^ low f)) (ltb (suc m * up e) (2 ^ suc (emax f) * down e)) held))
+
+  pub under-top : suc m * up e < 2 ^ suc (emax f) * down e
   unfolding fits
   under-top = ltb→lt (suc m * up e) (2 ^ suc (emax f) * down e) (and-r (eqb (suc m % 2) 1 && ltb (suc m) (2 ^ prec f) && leb (down e) (2 ^ low f)) (ltb (suc m * up e) (2 ^ suc (emax f) * down e)) held)
+
+-- ---- a float without a fraction is what rounding makes of its whole number
 
 below-top : (f : Format) (a : ℕ) → a < 2 ^ suc (emax f) → a * 2 ^ low f < 2 ^ (low f + suc (emax f))
 below-top f a h = lt-of-lt-of-le (mul-lt-mul-of-pos-right h (pow-pos (low f))) (le-of-eq (mul-comm (2 ^ suc (emax f)) (2 ^ low f) ∙ sym (pow-add 2 (low f) (suc (emax f)))))

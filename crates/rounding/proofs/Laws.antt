@@ -17,6 +17,10 @@ use Rattle.rounding.proofs.Flooring as by-part
 use Rattle.rounding.proofs.Picks as by-test
 use Rattle.rounding.proofs.Words as by-word
 pub use Rattle.rounding.proofs.Words.{plain, infWord}
+-- the test `<=` is transitive
+pub use Rattle.rounding.proofs.Order.{le-trans-float}
+-- floats that are not negative: rounding and the rounded operations keep their order
+pub use Rattle.rounding.proofs.Upward.{Up, up-right, up-trans, le→up, nle→up, up→le, round-own, round-up, not-zero, from-zero, mul-up, div-up, add-up, add-more, sub-up}
 
 -- ---- rounding
 

@@ -5,5 +5,7 @@ pub mod Rounding
 pub mod Signs
 pub mod Nearest
 pub mod Flooring
+pub mod Order
+pub mod Upward
 pub mod Laws
 pub mod Cases

@@ -1,18 +1,20 @@
 -- Half up is the nearest whole number, a half going up: k stands for n / d where k - 1 / 2 ≤ n / d < k + 1 / 2, and a quotient by 2 * d is the one such k.
 -- So rounding goes to the nearest, halves away from zero, at every width and either sign, and never falls as its number rises.
 use mathlib.Core.Path.{_≡_, sym, ap, _∙_}
-use mathlib.Core.Bool.{Bool, true, false, _&&_, _||_}
+use mathlib.Core.Bool.{Bool, true, false}
 use Prim.Native.Nat.{ℕ, _+_, _-_, _*_, _/_, _^_, _≤_, _<_, min, zero-le}
-use native.Mathlib.Nat.{le-refl, le-trans, le-of-eq, le-of-lt, lt-of-lt-of-le, mul-assoc, mul-comm, mul-one, zero-mul, div-one, div-mul-le-self, div-lt-iff-lt-mul, div-eq-of-lt-le, le-of-mul-le-mul-right, le-antisymm, min-le-left}
+use native.Mathlib.Nat.{le-refl, le-trans, le-of-eq, lt-of-lt-of-le, mul-assoc, mul-comm, mul-one, div-one, div-mul-le-self, div-lt-iff-lt-mul, div-eq-of-lt-le, min-le-left}
 use native.Mathlib.Numerals.{lt-add-one}
 use native.Mathlib.Omega.{arith}
-use lib.Dec.{T, ltb, eqb, eqb→eq, ltb→lt}
+use lib.Dec.{T, eqb, eqb→eq}
 use lib.IntN.{ℤ}
 use lib.Ieee.{Float, nan, inf, fin, up, down, lt, eq, le, toUnsigned, toSigned}
-use lib.Ieee.Fits.{down-pos, and-l, and-r}
+use lib.Ieee.Fits.{down-pos, and-r}
 use lib.Ieee.Nearest.{div-mono}
+use Rattle.numbers.proofs.Laws.{factor-zero}
 use Rattle.rounding.specs.Floats.{halfUp, roundAway}
 use Rattle.rounding.proofs.Signs.{stopped, no-half}
+use Rattle.rounding.proofs.Order.{same}
 
 -- 2 * k ≤ 2 * (n / d) + 1 < 2 * (k + 1), in whole numbers
 pub record Nearest (n d k : ℕ) : Type 0 where
@@ -50,10 +52,6 @@ module _ (m : ℕ) (e : ℤ) (k : ℕ) (h : Nearest (m * up e) (down e) k) where
 half-rises : (n d n' d' : ℕ) → 0 < d → 0 < d' → n * d' ≤ n' * d → halfUp n d ≤ halfUp n' d'
 half-rises n d n' d' D D' h = div-mono (2 * n + d) (2 * d) (2 * n' + d') (2 * d') (omega arith) (omega arith) (omega arith)
 
-at-most : (a b : Bool) (c d : ℕ) → (T a → c < d) → (T b → c ≡ d) → T (a || b) → c ≤ d
-at-most true b c d p q t = le-of-lt (p tt)
-at-most false b c d p q t = le-of-eq (q t)
-
 pub rounds-rise : (w : ℕ) (x y : Float) → T (le x y) → toUnsigned w (roundAway x) ≤ toUnsigned w (roundAway y)
 unfolding toUnsigned roundAway le lt eq
 rounds-rise w nan y h = zero-le
@@ -71,15 +69,12 @@ rounds-rise w (fin false m e) (inf false) h = go (halfUp (m * up e) (down e) * 1
     go a b = omega arith
 rounds-rise w (fin false m e) (fin true n d) h =
     let a = m * up e * down d in
-    let z : m * up e ≡ 0 = none (m * up e) (down d) (down-pos d) (eqb→eq a 0 (and-r (eqb a (n * up d * down e)) (eqb a 0) h)) in
+    let z : m * up e ≡ 0 = factor-zero (m * up e) (down d) (down-pos d) (eqb→eq a 0 (and-r (eqb a (n * up d * down e)) (eqb a 0) h)) in
     le-trans (min-le-left (halfUp (m * up e) (down e) * 1 / 1) (2 ^ w - 1)) (le-of-eq (no-half (m * up e) (down e) z (down-pos e)))
-  where
-    none : (u v : ℕ) → 0 < v → u * v ≡ 0 → u ≡ 0
-    none u v p z = le-antisymm (le-of-mul-le-mul-right (le-of-eq (z ∙ sym (zero-mul v))) p) zero-le
 rounds-rise w (fin false m e) (fin false n d) h =
     let a = m * up e * down d in
     let b = n * up d * down e in
-    go (halfUp (m * up e) (down e)) (halfUp (n * up d) (down d)) (2 ^ w - 1) (half-rises (m * up e) (down e) (n * up d) (down d) (down-pos e) (down-pos d) (at-most (ltb a b) (eqb a b && true) a b (ltb→lt a b) (λ t. eqb→eq a b (and-l (eqb a b) true t)) h))
+    go (halfUp (m * up e) (down e)) (halfUp (n * up d) (down d)) (2 ^ w - 1) (half-rises (m * up e) (down e) (n * up d) (down d) (down-pos e) (down-pos d) (same a b h))
   where
     go : (a b c : ℕ) → a ≤ b → min (a * 1 / 1) c ≤ min (b * 1 / 1) c
     go a b c l = omega arith

@@ -1,17 +1,24 @@
 -- What an answer says of the bytes: accepted, they are a score file, whose counts have limits and whose points are the fronts of the lent lists; refused, they are none.
 use mathlib.Core.Path.{_≡_, refl, sym, ap, _∙_}
-use mathlib.Core.Bool.{Bool, true, false}
+use mathlib.Core.Bool.{Bool, true, false, cond, _&&_}
 use mathlib.Core.List.{List, []}
 use Prim.Native.Nat.{ℕ, _*_, _≤_, _<_}
 use native.Mathlib.Omega.{arith}
+use lib.Dec.{leb, eqb}
 use lib.IntN.{ℤ}
 use lib.ListN.{length, take, drop}
-use lib.Seq.{take-at}
+use lib.Seq.{take-at, take-all, length-take-le}
 use Rattle.numbers.specs.Answers.{Answer, accepted, refused}
+use Rattle.numbers.proofs.Laws.{and-left, and-right, by-order}
+use Rattle.beats.specs.declared.Beat.{Beat}
+use Rattle.beats.specs.Beats.{isBeat}
+use Rattle.meter.specs.declared.Pickup.the-variants.{Absent, Present}
+use Rattle.meter.specs.Meters.{soundPickup}
 use Rattle.score.specs.declared.Score.{Score}
 use Rattle.score.specs.declared.ScoreAnswer.the-variants.{Read, BadFile}
 use Rattle.score.specs.Bytes.{wordAt, numberAt}
 use Rattle.score.specs.Format.{tempoOffset, tempoCount, meterCount, isScore, scoreOf, meterWords, tempoNums, tempoDens, tempoBits}
+use Rattle.score.specs.Format.{laidOut, pickupGood, beatsGood, pickupOf, pickupDen, pickupNum, pickupLow, pickupHigh}
 use Rattle.score.specs.Answers.{scoreAnswer, after}
 use Rattle.score.specs.Readings.{readScore}
 use Rattle.score.proofs.Places.{each-length}
@@ -88,3 +95,44 @@ module _ (b : List ℕ) where
       go : (x : Bool) → isScore b ≡ x → isScore b ≡ false
       go true t = let z : ⊥ = omega (arith, longest t) in absurd z
       go false t = t
+
+-- ---- a score that was read
+
+third : (a b c d : Bool) → (a && (b && (c && d))) ≡ true → c ≡ true
+third a b c d e = and-left c d (and-right b (c && d) (and-right a (b && (c && d)) e))
+
+good-pickup : (b : List ℕ) → isScore b ≡ true → pickupGood b ≡ true
+unfolding isScore
+good-pickup b e = third (leb 48 (length b)) (laidOut b) (pickupGood b) (beatsGood b (tempoOffset b) (tempoCount b)) e
+
+file-pickup : (b : List ℕ) → isScore b ≡ true → soundPickup (scoreOf b .pickup) ≡ true
+unfolding scoreOf pickupOf pickupGood
+file-pickup b e = go (eqb (pickupDen b) 0) (good-pickup b e)
+  where
+    beat : Beat
+    beat = record { num = pickupNum b; den = pickupDen b }
+
+    go : (absent : Bool) → cond absent (eqb (pickupLow b) 0 && eqb (pickupHigh b) 0) (isBeat beat) ≡ true → soundPickup (cond absent Absent (Present beat)) ≡ true
+    go true g = refl
+    go false g = g
+
+module _ (b : List ℕ) (s : Score) (e : readScore (Read s) ≡ scoreAnswer b) where
+  pub meters-few : s .meters ≤ 256
+  meters-few = rw (says b s e) (few-meters b (good-file b s e))
+
+  pub tempos-few : s .tempos ≤ 1024
+  tempos-few = rw (says b s e) (few-tempos b (good-file b s e))
+
+  -- its pickup is absent or a beat
+  pub pickup-sound : soundPickup (s .pickup) ≡ true
+  pickup-sound = rw (says b s e) (file-pickup b (good-file b s e))
+
+-- ---- a longer input
+
+-- A program may read one byte more than the longest score file. What it makes of that is what it would make of the whole input: a longer input is no score file,
+-- and what was read of it is none either.
+pub read-enough : {A : Type 0} (make : List ℕ → A) (none : A) → ((b : List ℕ) → 19504 < length b → make b ≡ none) → (b : List ℕ) → make (take 19505 b) ≡ make b
+read-enough make none over b = by-order 19505 (length b) long (λ h. ap make (take-all 19505 b h))
+  where
+    long : 19505 < length b → make (take 19505 b) ≡ make b
+    long h = over (take 19505 b) (omega (arith, length-take-le 19505 b (omega arith))) ∙ sym (over b (omega arith))

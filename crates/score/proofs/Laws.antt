@@ -4,9 +4,11 @@
 pub use Rattle.score.proofs.Accepted.{bad-file, good-file, says}
 -- the counts have limits, and the points are the fronts of the lent lists
 pub use Rattle.score.proofs.Accepted.{few-meters, few-tempos, meter-front, nums-front, dens-front, bits-front}
+-- a score that was read has these limits, and a pickup that is absent or a beat
+pub use Rattle.score.proofs.Accepted.{meters-few, tempos-few, pickup-sound}
 -- and so has the length
 pub use Rattle.score.proofs.Accepted.{longest, too-long}
+-- one byte more than the longest settles what a program makes of an input
+pub use Rattle.score.proofs.Accepted.{read-enough}
 -- no two cases of the answer read alike
 pub use Rattle.score.proofs.Readings.{scores-apart}
--- a loop that writes a list into a lent list from the front
-pub use Rattle.score.proofs.Writing.{Writing, begin-by, more-word, finish}

@@ -1,4 +1,3 @@
-pub mod Writing
 pub mod Places
 pub mod Whole
 pub mod Accepted

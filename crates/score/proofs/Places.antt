@@ -2,20 +2,16 @@
 use mathlib.Core.Path.{_≡_, refl, sym, ap, _∙_}
 use mathlib.Core.Bool.{Bool, true, false, _&&_}
 use mathlib.Core.List.{List, [], _∷_}
-use Prim.Native.Nat.{ℕ, zero, suc, _+_, _-_, _*_, _≤_, _<_}
-use native.Mathlib.Numerals.{add-one}
+use Prim.Native.Nat.{ℕ, zero, suc, _+_, _-_, _*_, _<_}
 use native.Mathlib.Omega.{arith}
-use native.Mathlib.Nat.{mul-le-mul-left}
-use borrow.Author.Tests.{lt-ltb, le-ltb, eq-eqb, ne-eqb}
+use borrow.Author.Tests.{eq-eqb, ne-eqb}
 use lib.Dec.{eqb}
-use lib.IntN.{ℤ, pos, negsuc}
+use lib.IntN.{ℤ}
 use lib.ListN.{length, getD}
-use Rattle.numbers.specs.Signs.{withSign, toI64}
-use Rattle.beats.specs.declared.Beat.{Beat}
+use Rattle.numbers.specs.Bits.{signedOf}
 use Rattle.beats.specs.Beats.{isBeat}
-use Rattle.meter.specs.declared.Pickup.{Pickup}
 use Rattle.meter.specs.declared.Pickup.the-variants.{Absent, Present}
-use Rattle.score.specs.Bytes.{wordAt, signedOf, numberAt, each}
+use Rattle.score.specs.Bytes.{wordAt, numberAt, each}
 use Rattle.score.specs.Format.{edition, meterCount, meterOffset, tempoCount, tempoOffset, total}
 use Rattle.score.specs.Format.{beatAt, laidOutBy, laidOut, pickupGood, pickupOf, beatsGood, pickupDen, pickupLow, pickupHigh, pickupNum}
 
@@ -25,18 +21,6 @@ pub word-is : (b : List ℕ) (p x y z w : ℕ) → x ≡ getD b p 0 → y ≡ ge
     → x + y * 256 + z * 65536 + w * 16777216 ≡ wordAt b p
 unfolding wordAt
 word-is b p x y z w e f g h = rw (e, f, g, h)
-
--- the number of bits below 2 ^ 63 is those bits
-pub signed-low : (n : ℕ) → n < 9223372036854775808 → toI64 (withSign false n) ≡ signedOf n
-unfolding signedOf
-signed-low n h = rw (lt-ltb n 9223372036854775808 h) (ap pos (omega arith))
-
--- of other bits it is what they lack to 2 ^ 64, below zero
-pub signed-high : (n : ℕ) → 9223372036854775808 ≤ n → toI64 (withSign true (18446744073709551615 - n + 1)) ≡ signedOf n
-unfolding signedOf
-signed-high n h =
-    rw (le-ltb n 9223372036854775808 h)
-    (ap (λ (k : ℕ). toI64 (withSign true k)) (add-one (18446744073709551615 - n)) ∙ ap negsuc (omega arith))
 
 pub number-is : (b : List ℕ) (p low high : ℕ) → low ≡ wordAt b p → high ≡ wordAt b (p + 4) → signedOf (low + high * 4294967296) ≡ numberAt b p
 unfolding numberAt
@@ -111,7 +95,3 @@ module _ {A : Type 0} (read : ℕ → A) where
   unfolding each
   each-length p step zero = refl
   each-length p step (suc m) = ap suc (each-length (p + step) step m)
-
--- one more step of a walk by steps of s stays within n of them
-pub steps : (s k n : ℕ) → k < n → s * k + s ≤ s * n
-steps s k n h = let m : s * (k + 1) ≤ s * n = mul-le-mul-left s (omega arith) in omega arith

@@ -1,6 +1,6 @@
 -- What the tests of a score file say of its words, and the two outcomes of reading it.
-use mathlib.Core.Path.{_≡_, refl, sym, ap, _∙_}
-use mathlib.Core.Bool.{Bool, true, false, _&&_}
+use mathlib.Core.Path.{_≡_, sym, ap, _∙_}
+use mathlib.Core.Bool.{true, false}
 use mathlib.Core.List.{List, [], _++_}
 use Prim.Native.Nat.{ℕ, _+_, _*_, _≤_, _<_}
 use native.Mathlib.Omega.{arith}
@@ -9,16 +9,13 @@ use lib.Dec.{leb, eqb}
 use lib.IntN.{ℤ}
 use lib.ListN.{length, drop}
 use Rattle.numbers.specs.Answers.{accepted, refused}
+use Rattle.numbers.proofs.Laws.{both}
 use Rattle.score.specs.declared.Score.{Score}
 use Rattle.score.specs.Bytes.{wordAt, numberAt, each}
 use Rattle.score.specs.Format.{edition, meterCount, meterOffset, tempoCount, tempoOffset, total, laidOut, pickupGood, beatsGood, isScore, scoreOf}
 use Rattle.score.specs.Format.{meterWords, tempoNums, tempoDens, tempoBits}
 use Rattle.score.specs.Answers.{scoreAnswer, after}
 use Rattle.score.proofs.Places.{each-length}
-
-both : (x y : Bool) → (x && y) ≡ true → (x ≡ true) × (y ≡ true)
-both true y e = (refl, e)
-both false y e = (e, cc)
 
 -- the counts and the length of a file whose parts follow without gaps
 pub record Laid (b : List ℕ) : Type 0 where

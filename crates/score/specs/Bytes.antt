@@ -1,18 +1,13 @@
 -- Words and numbers in a list of bytes, the lowest byte first. A byte past the end counts as 0.
-use Prim.Native.Nat.{ℕ, zero, suc, _+_, _-_, _*_}
-use mathlib.Core.Bool.{cond}
+use Prim.Native.Nat.{ℕ, zero, suc, _+_, _*_}
 use mathlib.Core.List.{List, [], _∷_}
-use lib.Dec.{ltb}
-use lib.IntN.{ℤ, pos, negsuc}
+use lib.IntN.{ℤ}
 use lib.ListN.{getD}
+use Rattle.numbers.specs.Bits.{signedOf}
 
 -- the 32-bit word of the four bytes from a place on
 unfoldable pub wordAt : List ℕ → ℕ → ℕ
 wordAt bytes place = getD bytes place 0 + getD bytes (place + 1) 0 * 256 + getD bytes (place + 2) 0 * 65536 + getD bytes (place + 3) 0 * 16777216
-
--- the number that 64 bits are in two's complement. (negsuc n is -(n + 1).)
-unfoldable pub signedOf : ℕ → ℤ
-signedOf bits = cond (ltb bits 9223372036854775808) (pos bits) (negsuc (18446744073709551615 - bits))
 
 -- the number of the two words from a place on, the lower one first
 unfoldable pub numberAt : List ℕ → ℕ → ℤ

@@ -3,7 +3,7 @@ ghost use mathlib.Core.Path.{_≡_};
 ghost use mathlib.Core.List.{_++_};
 ghost use Prim.Native.Nat.{_+_, _*_, _≤_, _<_};
 ghost use lib.ListN.{length, drop};
-ghost use Rattle.score.specs.Bytes.{wordAt, signedOf, numberAt, each};
+ghost use Rattle.score.specs.Bytes.{wordAt, numberAt, each};
 
 fn wide(byte: u8) -> u32
     ensures { λ r. ⌜ (r ≡ byte) × (r < 256) ⌝ }
@@ -23,17 +23,6 @@ pub fn word_at(bytes: &[u8], place: usize) -> u32
     a + b * 256 + c * 65536 + d * 16777216
 }
 
-// The number that 64 bits are in two's complement.
-fn as_signed(bits: u64) -> i64
-    ensures { λ r. ⌜ r ≡ signedOf bits ⌝ }
-{
-    if bits < 0x8000_0000_0000_0000 {
-        numbers::signed(false, bits)
-    } else {
-        numbers::signed(true, 0xffff_ffff_ffff_ffff - bits + 1)
-    }
-}
-
 // The number of the two words from a place on.
 pub fn number_at(bytes: &[u8], place: usize) -> i64
     requires { ⌜ place + 8 ≤ length (now bytes) ⌝ }
@@ -41,7 +30,7 @@ pub fn number_at(bytes: &[u8], place: usize) -> i64
 {
     let low = word_at(bytes, place);
     let high = word_at(bytes, place + 4);
-    as_signed(low as u64 + high as u64 * 4294967296)
+    numbers::as_signed(low as u64 + high as u64 * 4294967296)
 }
 
 // Copies `count` words, `step` bytes apart, the first at a place.

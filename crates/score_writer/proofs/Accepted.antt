@@ -10,12 +10,12 @@ use lib.IntN.{ℤ}
 use lib.ListN.{length, take, drop}
 use lib.Seq.{length-take-le}
 use Rattle.numbers.specs.Answers.{accepted, refused}
+use Rattle.numbers.proofs.Laws.{both}
 use Rattle.score.specs.declared.Score.{Score}
 use Rattle.score_writer.specs.declared.WriteAnswer.the-variants.{Written}
 use Rattle.score_writer.specs.Answers.{fewPoints, inLowestTerms, fileFrom, writeAnswer, writtenInto}
 use Rattle.score_writer.specs.Readings.{readWrite}
 use Rattle.score_writer.proofs.Putting.{file-length}
-use Rattle.score_writer.proofs.Places.{both}
 
 module _ (score : Score) (meter : List ℕ) (nums : List ℤ) (dens bits : List ℕ) where
   pub record WrittenFile (bytes : ℕ) : Type 0 where

@@ -9,6 +9,7 @@ use lib.Dec.{leb}
 use lib.IntN.{ℤ}
 use lib.ListN.{length, take, drop, getD, length-append}
 use lib.Seq.{take-at, drop-at, drop-drop}
+use Rattle.numbers.proofs.Laws.{both, bits-fit}
 use Rattle.tempo.specs.Answers.{allBeats}
 use Rattle.score.specs.declared.Score.{Score}
 use Rattle.score.specs.Bytes.{wordAt, numberAt, each}
@@ -16,7 +17,7 @@ use Rattle.score.specs.Format.{isScore, pickupOf, pickupGood, tempoOffset, temp
 use Rattle.score_writer.specs.Files.{low, high, wordsBytes, headerWords, pickupBeat, pointWords, tempoWords, fileOf}
 use Rattle.score_writer.specs.Promise.{AllBelow, AllInI64, Writable, ReadsBack}
 use Rattle.score_writer.proofs.Putting.{header-length, file-length}
-use Rattle.score_writer.proofs.Places.{both, word-back, words-back, points-back, bits-fit, good-is}
+use Rattle.score_writer.proofs.Places.{word-back, words-back, points-back, good-is}
 use Rattle.score_writer.proofs.Headers.{HeaderSaid, pickup-back, laid-back, score-back}
 
 -- ---- every word fits 32 bits
@@ -61,18 +62,18 @@ module _ (score : Score) (meter : List ℕ) (nums : List ℤ) (dens bits : List 
       let num = pickupBeat (score .pickup) .num in
       let one : 1 < 2 ^ 32 = omega arith in
       let l : low num < 2 ^ 32 = omega arith in
-      let u : high num < 2 ^ 32 = omega (arith, bits-fit num (w .pickup-num-fits)) in
+      let u : high num < 2 ^ 32 = omega (arith, bits-fit num (w .typed .pickup-num-fits)) in
       let m : score .meters < 2 ^ 32 = omega arith in
       let at : 48 < 2 ^ 32 = omega arith in
       let t : score .tempos < 2 ^ 32 = omega arith in
       let o : 48 + 12 * score .meters < 2 ^ 32 = omega arith in
       let n : 48 + 12 * score .meters + 16 * score .tempos < 2 ^ 32 = omega arith in
-      more one (more (w .rate-fits) (more (w .beats-fits) (more (w .bpm-fits)
-      (more (w .pickup-den-fits) (more l (more u
+      more one (more (w .typed .rate-fits) (more (w .typed .beats-fits) (more (w .typed .bpm-fits)
+      (more (w .typed .pickup-den-fits) (more l (more u
       (more m (more at (more t (more o (more n none)))))))))))
 
   all : AllBelow (2 ^ 32) (headerWords score ++ (meter ++ tempoWords nums dens bits))
-  all = joined (headerWords score) (header-fits .below) (joined meter (w .meter-fits) (points-fit nums dens bits (w .nums-fit) (w .dens-fit) (w .bits-fit))) .below
+  all = joined (headerWords score) (header-fits .below) (joined meter (w .typed .meter-fits) (points-fit nums dens bits (w .typed .nums-fit) (w .typed .dens-fit) (w .typed .bits-fit))) .below
 
   -- ---- the header
 
@@ -123,7 +124,7 @@ module _ (score : Score) (meter : List ℕ) (nums : List ℤ) (dens bits : List 
       let ws = headerWords score ++ (meter ++ tempoWords nums dens bits) in
       let b = wordsBytes ws in
       let k = 12 + 3 * score .meters in
-      let points = points-back ws all nums dens bits k (w .all-dens ∙ sym (w .all-nums)) (w .all-bits ∙ sym (w .all-nums)) (w .nums-fit) behind-meter in
+      let points = points-back ws all nums dens bits k (w .all-dens ∙ sym (w .all-nums)) (w .all-bits ∙ sym (w .all-nums)) (w .typed .nums-fit) behind-meter in
       let from : 48 + 12 * score .meters ≡ 4 * k = omega arith in
       let place : wordAt b 40 ≡ 4 * k = header .tempo-at ∙ from in
       let count : wordAt b 36 ≡ length nums = header .tempos ∙ sym (w .all-nums) in (
@@ -135,7 +136,7 @@ module _ (score : Score) (meter : List ℕ) (nums : List ℤ) (dens bits : List 
   -- ---- the whole
 
   pickup-says : (pickupOf (fileOf score meter nums dens bits) ≡ score .pickup) × (pickupGood (fileOf score meter nums dens bits) ≡ true)
-  pickup-says = pickup-back (fileOf score meter nums dens bits) (score .pickup) (header .pickup) (w .sound-pickup) (w .pickup-num-fits)
+  pickup-says = pickup-back (fileOf score meter nums dens bits) (score .pickup) (header .pickup) (w .sound-pickup) (w .typed .pickup-num-fits)
 
   long : length (fileOf score meter nums dens bits) ≡ 48 + 12 * score .meters + 16 * score .tempos
   long = file-length score meter nums dens bits (w .all-dens ∙ sym (w .all-nums)) (w .all-bits ∙ sym (w .all-nums)) ∙ omega (arith, w .all-meters, w .all-nums)

@@ -10,6 +10,8 @@ use lib.IntN.{natAbs}
 use lib.ListN.{length}
 use Rattle.numbers.specs.Signs.{inI64}
 use Rattle.numbers.specs.Divisor.{gcdOf}
+use Rattle.numbers.proofs.Laws.{both}
+use Rattle.numbers.specs.Bits.{bitsOf}
 use Rattle.beats.specs.Beats.{isBeat}
 use Rattle.meter.specs.declared.Pickup.{Pickup}
 use Rattle.meter.specs.declared.Pickup.the-variants.{Absent, Present}
@@ -17,10 +19,10 @@ use Rattle.meter.specs.Meters.{soundPickup}
 use Rattle.score.specs.declared.Score.{Score}
 use Rattle.score.specs.Bytes.{wordAt, numberAt, each}
 use Rattle.score.specs.Format.{laidOut, pickupGood, pickupOf, scoreOf}
-use Rattle.score_writer.specs.Files.{bitsOf, low, high, pickupBeat, tempoOffsetFor, totalFor, headerWords}
+use Rattle.score_writer.specs.Files.{low, high, pickupBeat, tempoOffsetFor, totalFor, headerWords}
 use Rattle.score_writer.specs.Answers.{fewPoints}
 use Rattle.score_writer.specs.Promise.{AllBelow}
-use Rattle.score_writer.proofs.Places.{both, number-at, low-again, high-again}
+use Rattle.score_writer.proofs.Places.{number-at, low-again, high-again}
 
 pub record PickupSaid (b : List ℕ) (pickup : Pickup) : Type 0 where
   pub den : wordAt b 16 ≡ pickupBeat pickup .den

@@ -1,6 +1,7 @@
 -- What crates above may use of the writer. They go by `fileOf`, and unfold none of its parts.
 use Rattle.score_writer.specs.Promise.{Promised}
 use Rattle.score_writer.proofs.Back.{reads-back}
+use Rattle.score_writer.proofs.Lent.{accepted-reads-back}
 use Rattle.score_writer.proofs.Again.{writes-again}
 -- an answer tells whether a file was written, how long it is, and where it stands
 pub use Rattle.score_writer.proofs.Accepted.{WrittenFile, written-file, file-in, file-short}
@@ -11,4 +12,4 @@ pub use Rattle.score_writer.proofs.Readings.{writes-apart}
 
 -- what is written is read back as it was given, and a file read and written again is the same
 pub promised : Promised
-promised = record { reads-back = reads-back; writes-again = writes-again }
+promised = record { reads-back = reads-back; accepted-reads-back = accepted-reads-back; writes-again = writes-again }

@@ -6,4 +6,5 @@ pub mod Headers
 pub mod Back
 pub mod Again
 pub mod Accepted
+pub mod Lent
 pub mod Laws

@@ -1,27 +1,23 @@
 -- Words and numbers at their places: what was written there is read, and what is read there is written again.
 use mathlib.Core.Path.{_≡_, refl, sym, ap, _∙_}
-use mathlib.Core.Bool.{Bool, true, false, cond, _&&_}
+use mathlib.Core.Bool.{Bool, true, _&&_}
 use mathlib.Core.List.{List, [], _∷_, _++_}
 use Prim.Native.Nat.{ℕ, zero, suc, _+_, _-_, _*_, _/_, _%_, _≤_, _<_, _^_}
 use native.Mathlib.Nat.{div-add-mod', div-div-eq-div-mul}
 use native.Mathlib.Omega.{arith}
-use borrow.Author.Tests.{leb-true, lt-ltb, le-ltb}
-use lib.Dec.{ltb, leb}
-use lib.IntN.{ℤ, pos, negsuc}
+use lib.IntN.{ℤ}
 use lib.ListN.{length, take, drop, getD}
 use lib.Seq.{getD-append-add, getD-drop, drop-cons, drop-drop}
 use Rattle.numbers.specs.Signs.{inI64}
+use Rattle.numbers.proofs.Laws.{signed-bits, bits-signed}
+use Rattle.numbers.specs.Bits.{signedOf, bitsOf}
 use Rattle.beats.specs.Beats.{isBeat}
 use Rattle.tempo.specs.Answers.{allBeats}
-use Rattle.score.specs.Bytes.{wordAt, signedOf, numberAt, each}
+use Rattle.score.specs.Bytes.{wordAt, numberAt, each}
 use Rattle.score.specs.Format.{beatAt, beatsGood}
-use Rattle.score_writer.specs.Files.{wordBytes, wordsBytes, bitsOf, low, high, pointWords, tempoWords}
+use Rattle.score_writer.specs.Files.{wordBytes, wordsBytes, low, high, pointWords, tempoWords}
 use Rattle.score_writer.specs.Promise.{AllBelow, AllInI64}
 use Rattle.score_writer.proofs.Putting.{word-length}
-
-pub both : (x y : Bool) → (x && y) ≡ true → (x ≡ true) × (y ≡ true)
-both true y e = (refl, e)
-both false y e = (e, cc)
 
 link : {A : Type 0} {x y : A} {l m : List A} → x ≡ y → l ≡ m → x ∷ l ≡ y ∷ m
 link e f = cc
@@ -108,27 +104,6 @@ module _ (b : List ℕ) where
         ∙ ap (λ (k : ℕ). take k (drop p b)) e
 
 -- ---- numbers
-
-pub bits-fit : (num : ℤ) → inI64 num ≡ true → bitsOf num < 2 ^ 64
-unfolding bitsOf
-bits-fit (pos n) h = omega (arith, leb-true n 9223372036854775807 h)
-bits-fit (negsuc n) h = omega arith
-
-signed-bits : (num : ℤ) → inI64 num ≡ true → signedOf (bitsOf num) ≡ num
-unfolding bitsOf signedOf
-signed-bits (pos n) h = simp (lt-ltb n 9223372036854775808 (omega (arith, leb-true n 9223372036854775807 h)))
-signed-bits (negsuc n) h =
-    let m : n ≤ 9223372036854775807 = leb-true n 9223372036854775807 (both (leb n 9223372036854775807) true h .0) in
-    let e : 18446744073709551615 - (18446744073709551615 - n) ≡ n = omega arith in
-    simp (le-ltb (18446744073709551615 - n) 9223372036854775808 (omega arith)) (ap negsuc e)
-
-bits-signed : (n : ℕ) → n < 2 ^ 64 → bitsOf (signedOf n) ≡ n
-unfolding bitsOf signedOf
-bits-signed n h = go (ltb n 9223372036854775808) refl
-  where
-    go : (t : Bool) → ltb n 9223372036854775808 ≡ t → bitsOf (cond t (pos n) (negsuc (18446744073709551615 - n))) ≡ n
-    go true e = refl
-    go false e = omega arith
 
 -- two words written are the number read
 pub number-at : (b : List ℕ) (p : ℕ) (num : ℤ) → inI64 num ≡ true → wordAt b p ≡ low num → wordAt b (p + 4) ≡ high num → numberAt b p ≡ num

@@ -6,10 +6,10 @@ use Prim.Native.Nat.{ℕ, zero, suc, _+_, _-_, _*_, _/_, _%_, _≤_, _<_}
 use native.Mathlib.Numerals.{add-one}
 use native.Mathlib.Omega.{arith}
 use borrow.Author.Tests.{eq-eqb, le-leb}
-use lib.IntN.{ℤ, pos, negsuc, natAbs}
+use lib.IntN.{ℤ, pos}
 use lib.ListN.{length, take, getD, length-append}
 use lib.Seq.{take-all, take-suc}
-use Rattle.numbers.specs.Signs.{isNeg}
+use Rattle.numbers.specs.Bits.{bitsOf}
 use Rattle.text.specs.Texts.{Puts}
 use Rattle.text.proofs.Laws.{behind, retext, nothing}
 use Rattle.beats.specs.declared.Beat.{Beat}
@@ -17,7 +17,7 @@ use Rattle.tempo.specs.declared.MapTest.{MapTest}
 use Rattle.tempo.specs.declared.MapTest.the-variants.{Sound, Uneven, TooLong, NotBeat}
 use Rattle.tempo.specs.Answers.{allBeats, mapTest}
 use Rattle.score.specs.declared.Score.{Score}
-use Rattle.score_writer.specs.Files.{wordBytes, wordsBytes, bitsOf, pickupBeat, headerWords, pointWords, tempoWords, fileOf}
+use Rattle.score_writer.specs.Files.{wordBytes, wordsBytes, pickupBeat, headerWords, pointWords, tempoWords, fileOf}
 
 -- ---- lengths
 
@@ -58,22 +58,6 @@ pub next-word : (ws : List ℕ) (k : ℕ) {at p r : ℕ} {o₀ o₁ o₂ : List 
 next-word ws k h room x y =
     let q : take k ws ++ (getD ws k 0 ∷ []) ≡ take (k + 1) ws = sym (ap (λ (j : ℕ). take j ws) (add-one k) ∙ take-suc ws k 0 h) in
     retext (ap (λ (l : List ℕ). wordsBytes (take k ws) ++ l) (sym (one-word (getD ws k 0))) ∙ sym (words-append (take k ws) (getD ws k 0 ∷ [])) ∙ ap wordsBytes q) (behind room x y)
-
--- ---- the bits of a number
-
-pub neg-some : (x : ℤ) → isNeg x ≡ true → 1 ≤ natAbs x
-neg-some (pos n) e = let z : _≡_ {A = ℕ} 0 1 = cc in omega arith
-neg-some (negsuc n) e = omega arith
-
-pub bits-below : (x : ℤ) → isNeg x ≡ true → 18446744073709551615 - (natAbs x - 1) ≡ bitsOf x
-unfolding bitsOf
-bits-below (pos n) e = cc
-bits-below (negsuc n) e = omega arith
-
-pub bits-above : (x : ℤ) → isNeg x ≡ false → natAbs x ≡ bitsOf x
-unfolding bitsOf
-bits-above (pos n) e = refl
-bits-above (negsuc n) e = cc
 
 -- ---- tempo points
 

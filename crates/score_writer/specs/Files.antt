@@ -1,7 +1,8 @@
 -- The bytes of the file that says a score: a list of 32-bit words, each as four bytes, the lowest first.
 use mathlib.Core.List.{List, [], _∷_, _++_}
-use Prim.Native.Nat.{ℕ, _+_, _-_, _*_, _/_, _%_}
-use lib.IntN.{ℤ, pos, negsuc}
+use Prim.Native.Nat.{ℕ, _+_, _*_, _/_, _%_}
+use lib.IntN.{ℤ, pos}
+use Rattle.numbers.specs.Bits.{bitsOf}
 use Rattle.beats.specs.declared.Beat.{Beat}
 use Rattle.meter.specs.declared.Pickup.{Pickup}
 use Rattle.meter.specs.Meters.{pickupOr}
@@ -17,11 +18,6 @@ wordsBytes [] = []
 wordsBytes (word ∷ words) = wordBytes word ++ wordsBytes words
 
 -- ---- numbers as two words
-
--- the 64 bits of a number in two's complement. (negsuc n is -(n + 1).)
-unfoldable pub bitsOf : ℤ → ℕ
-bitsOf (pos n) = n
-bitsOf (negsuc n) = 18446744073709551615 - n
 
 abbrev pub low : ℤ → ℕ
 low num = bitsOf num % 4294967296

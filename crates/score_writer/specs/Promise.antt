@@ -1,18 +1,19 @@
 -- What makes the writer and the reader a pair: what is written is read back as it was given, and a file that is read and written again is the same file.
--- proofs/Back.antt and proofs/Again.antt prove it.
+-- proofs/Back.antt, proofs/Lent.antt and proofs/Again.antt prove it.
 use mathlib.Core.Path.{_≡_}
 use mathlib.Core.Bool.{true}
 use mathlib.Core.List.{List}
-use Prim.Native.Nat.{ℕ, _*_, _<_, _^_}
+use Prim.Native.Nat.{ℕ, _*_, _≤_, _<_, _^_}
 use lib.IntN.{ℤ, pos}
-use lib.ListN.{length, getD}
+use lib.ListN.{length, take, getD}
+use Rattle.numbers.specs.Answers.{accepted}
 use Rattle.numbers.specs.Signs.{inI64}
 use Rattle.meter.specs.Meters.{soundPickup}
 use Rattle.tempo.specs.Answers.{allBeats}
 use Rattle.score.specs.declared.Score.{Score}
 use Rattle.score.specs.Format.{isScore, scoreOf, meterWords, tempoNums, tempoDens, tempoBits}
 use Rattle.score_writer.specs.Files.{pickupBeat, fileOf}
-use Rattle.score_writer.specs.Answers.{fewPoints}
+use Rattle.score_writer.specs.Answers.{fewPoints, fileFrom, writeAnswer}
 
 -- ---- lists of bytes, words and numbers
 
@@ -26,15 +27,8 @@ AllInI64 nums = (place : ℕ) → inI64 (getD nums place (pos 0)) ≡ true
 -- ---- what can be written
 
 module _ (score : Score) (meter : List ℕ) (nums : List ℤ) (dens bits : List ℕ) where
-  -- what a call that is not refused has: points as the score counts them, beats in lowest terms, and numbers that fit their types
-  pub record Writable : Type 0 where
-    pub few : fewPoints score ≡ true
-    pub all-meters : length meter ≡ 3 * score .meters
-    pub all-nums : length nums ≡ score .tempos
-    pub all-dens : length dens ≡ score .tempos
-    pub all-bits : length bits ≡ score .tempos
-    pub sound-pickup : soundPickup (score .pickup) ≡ true
-    pub sound-beats : allBeats nums dens ≡ true
+  -- the numbers fit their types
+  pub record Typed : Type 0 where
     pub rate-fits : score .rate < 2 ^ 32
     pub beats-fits : score .beats < 2 ^ 32
     pub bpm-fits : score .bpm < 2 ^ 32
@@ -44,6 +38,17 @@ module _ (score : Score) (meter : List ℕ) (nums : List ℤ) (dens bits : List 
     pub nums-fit : AllInI64 nums
     pub dens-fit : AllBelow (2 ^ 32) dens
     pub bits-fit : AllBelow (2 ^ 32) bits
+
+  -- what a call that is not refused has: points as the score counts them, beats in lowest terms, and numbers that fit their types
+  pub record Writable : Type 0 where
+    pub few : fewPoints score ≡ true
+    pub all-meters : length meter ≡ 3 * score .meters
+    pub all-nums : length nums ≡ score .tempos
+    pub all-dens : length dens ≡ score .tempos
+    pub all-bits : length bits ≡ score .tempos
+    pub sound-pickup : soundPickup (score .pickup) ≡ true
+    pub sound-beats : allBeats nums dens ≡ true
+    pub typed : Typed
 
   -- bytes that are a score file, and say this
   pub record Says (bytes : List ℕ) : Type 0 where
@@ -62,6 +67,15 @@ ReadsBack = (score : Score) (meter : List ℕ) (nums : List ℤ) (dens bits : Li
     → Writable score meter nums dens bits
     → Says score meter nums dens bits (fileOf score meter nums dens bits)
 
+-- so does what an accepted call writes: the points that count of the lent arrays, which have room for a full file
+abbrev pub AcceptedReadsBack : Type 0
+AcceptedReadsBack = (score : Score) (meter : List ℕ) (nums : List ℤ) (dens bits : List ℕ)
+    → 768 ≤ length meter → 1024 ≤ length nums → 1024 ≤ length dens → 1024 ≤ length bits
+    → Typed score meter nums dens bits
+    → (bytes : ℕ) → writeAnswer score meter nums dens bits ≡ accepted bytes
+    → Says score (take (3 * score .meters) meter) (take (score .tempos) nums) (take (score .tempos) dens) (take (score .tempos) bits)
+    (fileFrom score meter nums dens bits)
+
 -- a score file that is read and written again is the same, so no two files say the same
 abbrev pub WritesAgain : Type 0
 WritesAgain = (bytes : List ℕ) → AllBelow 256 bytes → isScore bytes ≡ true
@@ -69,4 +83,5 @@ WritesAgain = (bytes : List ℕ) → AllBelow 256 bytes → isScore bytes ≡ tr
 
 pub record Promised : Type 0 where
   pub reads-back : ReadsBack
+  pub accepted-reads-back : AcceptedReadsBack
   pub writes-again : WritesAgain

@@ -31,7 +31,7 @@ fn header(out: &mut [u8], score: Score) -> usize
 {
     let pickup = score.pickup;
     let beat = pickup.or(Beat { num: 0, den: 0 });
-    let whole = words::bits(beat.num);
+    let whole = numbers::as_bits(beat.num);
     let meters = score.meters as u32;
     let tempos = score.tempos as u32;
     let words = [

@@ -4,7 +4,7 @@ ghost use mathlib.Core.Path.{_≡_};
 ghost use Prim.Native.Nat.{_+_, _*_, _≤_};
 ghost use lib.ListN.{length};
 ghost use Rattle.text.specs.Texts.{Puts};
-ghost use Rattle.score_writer.specs.Files.{wordBytes, wordsBytes, bitsOf, pointWords, tempoWords};
+ghost use Rattle.score_writer.specs.Files.{wordBytes, wordsBytes, pointWords, tempoWords};
 
 pub fn word(out: &mut [u8], place: usize, word: u32) -> usize
     requires { ⌜ place + 4 ≤ length (now out) ⌝ }
@@ -29,24 +29,12 @@ pub fn words(out: &mut [u8], place: usize, words: &[u32]) -> usize
     p
 }
 
-// The 64 bits of a number in two's complement.
-pub fn bits(x: i64) -> u64
-    ensures { λ r. ⌜ r ≡ bitsOf x ⌝ }
-{
-    let size = numbers::magnitude(x);
-    if numbers::negative(x) {
-        0xffff_ffff_ffff_ffff - (size - 1)
-    } else {
-        size
-    }
-}
-
 // A tempo point, four words.
 fn point(out: &mut [u8], place: usize, num: i64, den: u32, bpm: u32) -> usize
     requires { ⌜ place + 16 ≤ length (now out) ⌝ }
     ensures { λ r. ⌜ Puts place (wordsBytes (pointWords num den bpm)) (now (out .entry)) r (now (out .exit)) ⌝ }
 {
-    let whole = bits(num);
+    let whole = numbers::as_bits(num);
     let low = (whole % 4294967296) as u32;
     let high = (whole / 4294967296) as u32;
     words(out, place, &[low, high, den, bpm])

@@ -4,6 +4,7 @@ use mathlib.Core.List.{List, [], _∷_}
 use Prim.Native.Nat.{ℕ, _/_, _%_}
 use lib.Ieee.{span, climb, size, odd, units, round, mul, div, lt, ofInt, toUnsigned, isNan, ofFields, ofBits}
 use Rattle.numbers.specs.Divisor.{gcdOf, remainders}
+use Rattle.numbers.specs.Bits.{signedOf}
 use Rattle.rounding.specs.Floats.{roundAway, maximum}
 use Rattle.beats.specs.Beats.{newBeat, lowest}
 use Rattle.beats.specs.Sums.{fitted}
@@ -11,7 +12,7 @@ use Rattle.meter.specs.Meters.{pointsOf, lastAt, lenOf, barLen, nextChange}
 use Rattle.meter.specs.Starts.{afterBars, segments, startOf}
 use Rattle.tempo.specs.Tempos.{tempoPoints}
 use Rattle.timeline.specs.Places.{secondsOf, frameAtBeat, frameAtBar}
-use Rattle.score.specs.Bytes.{wordAt, signedOf, numberAt, each}
+use Rattle.score.specs.Bytes.{wordAt, numberAt, each}
 use Rattle.score.specs.Format.{laidOut, pickupGood, beatsGood, isScore, pickupOf, scoreOf, meterWords, tempoNums, tempoDens, tempoBits}
 use Rattle.text.specs.Texts.{digitsBy, decimal, signedText, beatText}
 use Rattle.sheet_text.specs.Sheets.{lineText, linesOf, sheetOf, sheetText}

@@ -1,12 +1,10 @@
 -- The sheet of what was read from a file is the sheet of the file; and a text put at the front counts as a part.
-use mathlib.Core.Path.{_≡_, refl, sym, ap, _∙_}
-use mathlib.Core.Bool.{true, false}
+use mathlib.Core.Path.{_≡_, ap}
+use mathlib.Core.Bool.{true}
 use mathlib.Core.List.{List}
-use Prim.Native.Nat.{ℕ, _+_, _*_, _≤_}
-use native.Mathlib.Omega.{arith}
+use Prim.Native.Nat.{ℕ, _*_}
 use lib.IntN.{ℤ}
-use lib.ListN.{length, take}
-use lib.Seq.{length-take-le}
+use lib.ListN.{take}
 use Rattle.meter.specs.declared.MeterPoint.{MeterPoint}
 use Rattle.meter.specs.Meters.{pointsOf}
 use Rattle.tempo.specs.Tempos.{TempoPoint, tempoPoints}
@@ -16,17 +14,10 @@ use Rattle.score.specs.declared.ScoreAnswer.the-variants.{Read, BadFile}
 use Rattle.score.specs.Format.{isScore, scoreOf, meterWords, tempoNums, tempoDens, tempoBits}
 use Rattle.score.specs.Answers.{scoreAnswer, after}
 use Rattle.score.specs.Readings.{readScore}
-use Rattle.score.proofs.Laws.{bad-file, good-file, says, few-meters, few-tempos, meter-front, nums-front, dens-front, bits-front}
+use Rattle.score.proofs.Laws.{bad-file, good-file, says, meter-front, nums-front, dens-front, bits-front}
 use Rattle.text.specs.Texts.{Puts}
-use Rattle.text.proofs.Laws.{same, retext}
+use Rattle.text.proofs.Laws.{retext}
 use Rattle.sheet_text.specs.Sheets.{sheetOf, clockOf, refusalText, sheetText}
-
--- a text put at the front of bytes, and how many bytes it has
-pub counted : {r : ℕ} {t out now : List ℕ} → Puts 0 t out r now → r ≤ length out → (r ≤ length now) × (r ≡ length (take r now))
-counted {r} {t} {out} {now} x h =
-    let e : length now ≡ length out = same (omega (arith, x .next-is)) x in
-    let f : r ≤ length now = omega arith in
-    (f, sym (length-take-le r now f))
 
 pub by-clock : (map : List MeterPoint) (points : List TempoPoint) {t u : Transport} {r : ℕ} {out now : List ℕ}
     → t ≡ u → Puts 0 (sheetOf t map points) out r now → Puts 0 (sheetOf u map points) out r now
@@ -43,12 +34,6 @@ module _ (b : List ℕ) where
   good-is g = simp g
 
   module _ (s : Score) (e : readScore (Read s) ≡ scoreAnswer b) where
-    pub meters-few : s .meters ≤ 256
-    meters-few = rw (says b s e) (few-meters b (good-file b s e))
-
-    pub tempos-few : s .tempos ≤ 1024
-    tempos-few = rw (says b s e) (few-tempos b (good-file b s e))
-
     pub sheet-is : (meter₀ : List ℕ) (nums₀ : List ℤ) (dens₀ bpms₀ : List ℕ) {meter : List ℕ} {nums : List ℤ} {dens bpms : List ℕ}
         → meter ≡ after b (meterWords b) meter₀ → nums ≡ after b (tempoNums b) nums₀ → dens ≡ after b (tempoDens b) dens₀ → bpms ≡ after b (tempoBits b) bpms₀
         → sheetOf (clockOf s) (pointsOf (take (3 * s .meters) meter)) (tempoPoints (take (s .tempos) nums) (take (s .tempos) dens) (take (s .tempos) bpms)) ≡ sheetText b

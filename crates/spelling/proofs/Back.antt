@@ -7,22 +7,19 @@ use native.Mathlib.Omega.{arith}
 use borrow.Author.Tests.{lt-ltb, eqb-true, eqb-false}
 use lib.Dec.{eqb}
 use lib.IntN.{ℤ, pos, negsuc}
-use lib.ListN.{length, take, drop, getD, length-append}
+use lib.ListN.{length, drop, getD, length-append}
 use lib.Seq.{take-at, drop-append-add}
 use mir.Syntax.{w64}
 use mir.Val.{SFits}
 use Rattle.beats.specs.declared.Beat.{Beat}
 use Rattle.beats.specs.Beats.{isBeat}
 use Rattle.text.specs.Texts.{digitsBy, decimal, signedText, beatText}
-use Rattle.spelling.specs.declared.NumberAnswer.{NumberAnswer}
 use Rattle.spelling.specs.declared.NumberAnswer.the-variants as N
-use Rattle.spelling.specs.declared.BeatWord.{BeatWord}
 use Rattle.spelling.specs.declared.BeatWord.the-variants as B
 use Rattle.spelling.specs.declared.digits.Digits.{Digits}
-use Rattle.spelling.specs.declared.digits.Digits.the-variants.{Number, NotDigits}
-use Rattle.spelling.specs.declared.fractions.Signed.{Signed}
+use Rattle.spelling.specs.declared.digits.Digits.the-variants.{Number}
 use Rattle.spelling.specs.declared.fractions.Signed.the-variants as S
-use Rattle.spelling.specs.Words.{digitOf, numberBy, someDigits, placeOf, asNumber, numberOf, signedBy, signedOf, denominatorOf, fractionBy, fractionOf, beatOf}
+use Rattle.spelling.specs.Words.{digitOf, numberBy, someDigits, placeOf, asNumber, numberOf, signedBy, signedOf, denominatorOf, beatOf}
 use Rattle.spelling.proofs.Reading.{digit-0, one-more, none-left, carried, number-append, some-word}
 use Rattle.spelling.proofs.Marks.{here, later, none}
 use Rattle.spelling.proofs.Ratios.{number-is, minus, plus, whole, beat-is}

@@ -2,11 +2,10 @@
 use mathlib.Core.Path.{_≡_, refl, sym, ap, _∙_}
 use mathlib.Core.Bool.{Bool, true, false, cond}
 use mathlib.Core.List.{List, [], _∷_}
-use Prim.Native.Nat.{ℕ, zero, suc, _+_, _-_, _≤_, _<_}
+use Prim.Native.Nat.{ℕ, _+_, _-_, _≤_, _<_}
 use native.Mathlib.Numerals.{add-one}
 use native.Mathlib.Omega.{arith}
 use borrow.Author.Tests.{lt-ltb, le-ltb, eq-eqb, ne-eqb}
-use lib.Dec.{ltb, eqb}
 use lib.IntN.{ℤ}
 use lib.ListN.{length, take, drop, getD}
 use Rattle.numbers.specs.Signs.{mostOf}
@@ -14,7 +13,6 @@ use Rattle.beats.specs.declared.Beat.{Beat}
 use Rattle.beats.specs.Beats.{isBeat}
 use Rattle.spelling.specs.declared.NumberAnswer.{NumberAnswer}
 use Rattle.spelling.specs.declared.NumberAnswer.the-variants as N
-use Rattle.spelling.specs.declared.BeatWord.{BeatWord}
 use Rattle.spelling.specs.declared.BeatWord.the-variants as B
 use Rattle.spelling.specs.declared.fractions.Signed.{Signed}
 use Rattle.spelling.specs.declared.fractions.Signed.the-variants as S

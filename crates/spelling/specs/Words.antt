@@ -1,13 +1,12 @@
 -- Numbers, beats and tempos as a word of text says them. A word is a list of ASCII bytes.
 use mathlib.Core.Bool.{Bool, true, false, cond, _&&_}
 use mathlib.Core.List.{List, [], _∷_, _++_}
-use Prim.Native.Nat.{ℕ, zero, suc, _+_, _-_, _*_, _^_}
+use Prim.Native.Nat.{ℕ, suc, _+_, _-_, _*_, _^_}
 use lib.Dec.{ltb, leb, eqb}
 use lib.Ieee.{binary32, div, ofInt, toBits}
 use lib.IntN.{ℤ, pos}
 use lib.ListN.{length, take, drop, getD}
 use Rattle.numbers.specs.Signs.{withSign, toI64, mostOf}
-use Rattle.beats.specs.declared.Beat.{Beat}
 use Rattle.beats.specs.Beats.{isBeat}
 use Rattle.spelling.specs.declared.NumberAnswer.{NumberAnswer}
 use Rattle.spelling.specs.declared.NumberAnswer.the-variants as N

@@ -12,9 +12,6 @@ use Rattle.splits.specs.Splits.{blank, inked, other, longer, run, past, 
 use Rattle.splits.proofs.Runs.{run-short}
 
 module _ (mark : ℕ → Bool) where
-  unmarked : ℕ → Bool
-  unmarked byte = not (mark byte)
-
   -- ---- the first part
 
   pub split-first : (text : List ℕ) → 0 < length text

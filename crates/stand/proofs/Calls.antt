@@ -79,15 +79,18 @@ module _ (clock : List ℕ) (t : Transport) (is : t ≡ clockOf clock) where
   unfolding cuesAfter
   cues-are lines frames cues after e = e ∙ ap (λ (u : Transport). cueAfter u lines frames cues) is
 
--- a refused cue call changes nothing that is lent
-pub nothing-cued :
-    {n : ℕ} (clock lines : List ℕ) (frames : ℕ) (cues : List ℕ) (count report : ℕ) (after : List ℕ) (r : CueAnswer) → cued clock lines frames cues ≡ readCues r
-    → readReport (r .report) ≡ refused n []
-    → after ≡ cuesAfter clock lines frames cues
-    → (n ≡ number (cued clock lines frames cues .answer))
+-- the number n is answered, and nothing that is lent is changed
+abbrev pub Uncued : List ℕ → List ℕ → ℕ → List ℕ → ℕ → ℕ → List ℕ → ℕ → Type 0
+Uncued clock lines frames cues count report after n =
+    (n ≡ number (cued clock lines frames cues .answer))
     × ((clock ≡ clockAfter clock (cued clock lines frames cues))
     × ((after ≡ cuesAfter clock lines frames cues)
     × ((count ≡ given saidCount (cued clock lines frames cues .answer) count) × (report ≡ given saidFlags (cued clock lines frames cues .answer) report))))
+
+-- so it is where a cue call is refused
+pub nothing-cued : {n : ℕ} (clock lines : List ℕ) (frames : ℕ) (cues : List ℕ) (count report : ℕ) (after : List ℕ) (r : CueAnswer)
+    → cued clock lines frames cues ≡ readCues r → readReport (r .report) ≡ refused n [] → after ≡ cuesAfter clock lines frames cues
+    → Uncued clock lines frames cues count report after n
 nothing-cued clock lines frames cues count report after r e f g =
     let said = ap (λ (h : Handed Said). h .answer) e ∙ f in
     (number-refused said, (clock-kept clock (cued clock lines frames cues) said, (g, (kept saidCount count said, kept saidFlags report said))))

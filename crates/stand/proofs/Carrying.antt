@@ -1,13 +1,13 @@
 -- A clock goes from call to call: an accepted call changes position and state alone, which are written, and a refused one changes nothing. Assumes nothing.
 use mathlib.Core.Path.{_≡_, refl, sym, ap, _∙_}
 use mathlib.Core.Bool.{Bool, true, false, cond}
-use mathlib.Core.List.{List, [], _∷_}
+use mathlib.Core.List.{List, []}
 use Prim.Native.Nat.{ℕ}
 use native.Mathlib.Omega.{arith}
 use lib.ListN.{length as count}
 use Rattle.numbers.specs.Answers.{Answer, accepted, refused}
 use Rattle.transport.specs.declared.Transport.{Transport}
-use Rattle.transport.specs.Transports.{sound, movedTo}
+use Rattle.transport.specs.Transports.{sound}
 use Rattle.transport.specs.Advances.{advanced, movesOf}
 use Rattle.transport.proofs.Laws.{advanced-keeps}
 use Rattle.cues.specs.Sounding.{cues}
@@ -16,7 +16,7 @@ use Rattle.clock_words.specs.Clocks.{clockWords, clockOf, placed}
 use Rattle.clock_words.proofs.Laws.{wordsOf, no-clock-unsound, reads-placed}
 use Rattle.stand.specs.Calls.{advancedBy, cued}
 use Rattle.stand.specs.Words.{clockAfter}
-use Rattle.stand.specs.Promise.{Carries, CarriesOn}
+use Rattle.stand.specs.Promise.{CarriesOn}
 
 -- a test that is passed, behind one that refuses by 12
 passed : (q : Bool) (next : Answer Unit) (u : Unit) → cond q next (refused 12 []) ≡ accepted u → q ≡ true

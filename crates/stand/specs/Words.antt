@@ -3,7 +3,6 @@ use Prim.Native.Nat.{ℕ, _+_}
 use mathlib.Core.Bool.{Bool, cond}
 use mathlib.Core.List.{List}
 use Rattle.numbers.specs.Answers.{Answer, accepted, refused}
-use Rattle.beats.specs.declared.Beat.{Beat}
 use Rattle.transport.specs.Changes.{Handed}
 use Rattle.transport.specs.Advances.{Moves}
 use Rattle.cues.specs.CueCall.{Said}

@@ -1,17 +1,15 @@
 -- The edges of the walks, worked out on small maps: a table's rows are a question and its answer. Each table is one statement, closed by computing.
-use mathlib.Core.Path.{_≡_, refl}
-use mathlib.Core.List.{List, [], _∷_, map}
+use mathlib.Core.Path.{refl}
+use mathlib.Core.List.{List, [], _∷_}
 use Prim.Native.Nat.{ℕ}
 use lib.IntN.{ℤ, pos, negsuc}
 use lib.Ieee.{binary64, ofBits, toBits, isNan, ofInt, add, sub, mul, div, lt, le}
 use Rattle.numbers.specs.Answers.{number}
 use Rattle.numbers.specs.Divisor.{gcdOf, remainders}
+use Rattle.numbers.proofs.Laws.{Agree}
 use Rattle.rounding.specs.Floats.{maximum, float0}
 use Rattle.tempo.specs.Tempos.{TempoPoint, tempoPoints, walk, wholeWalk, secondsAtBeat, tempoAtBeat, beatAtSeconds}
 use Rattle.tempo.specs.Answers.{allBeats, mapTest, secondsAnswer}
-
-abbrev Agree : {A B : Type 0} → (A → B) → List (A × B) → Type 0
-Agree f table = map f (map (λ row. row .0) table) ≡ map (λ row. row .1) table
 
 -- ---- by the bits of a beat: the bits of the seconds, and those of the tempo
 

@@ -10,5 +10,3 @@ pub use Rattle.tempo.proofs.Walking.{pointsFrom, begins, ends, stops, g
 pub use Rattle.tempo.proofs.Readings.{tempos-apart}
 -- seconds never fall as the beat rises; of the tempos only an infinity is excluded
 pub use Rattle.tempo.proofs.Rising.{seconds-up, seconds-at-up, seconds-rise, rising-none, rising-more, finite-tempo}
--- floats that are not negative: rounding and the rounded operations keep their order
-pub use Rattle.tempo.proofs.Upward.{Up, up-right, up-trans, le→up, up→le, round-own, round-up, mul-up, div-up, add-up, add-more, sub-up}

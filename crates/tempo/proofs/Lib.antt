@@ -2,7 +2,6 @@ pub mod Walking
 pub mod Testing
 pub mod Readings
 pub mod Cases
-pub mod Upward
 pub mod Zeros
 pub mod Rising
 pub mod Laws

@@ -11,12 +11,13 @@ use lib.Ieee.{Float, nan, inf, fin, binary32, binary64, up, down, ofBits, fits, 
 use lib.Ieee.Fits.{add-fits}
 use lib.Ieee.Positive.{positive}
 use lib.Ieee.Scale.{finite}
+use Rattle.numbers.proofs.Laws.{holds}
 use Rattle.rounding.specs.Floats.{float0, float1, withoutSign}
 use Rattle.rounding.proofs.Laws.{max-positive}
 use Rattle.beats.specs.Frames.{float60, beatFloat, secondsAt}
 use Rattle.tempo.specs.Tempos.{TempoPoint, tempoOf, tempoPoints, elapsed, walk, wholeWalk, secondsAtBeat}
 use Rattle.tempo.specs.Rising.{Follows, RisingFrom, RisingMap}
-use Rattle.tempo.proofs.Upward.{Up, up-right, up-trans, le→up, nle→up, up→le, mul-up, div-up, add-up, add-more, sub-up}
+use Rattle.rounding.proofs.Laws.{Up, up-right, up-trans, le→up, nle→up, up→le, mul-up, div-up, add-up, add-more, sub-up}
 use Rattle.tempo.proofs.Zeros.{Zero, FromZero, sub-zero, mul-zero, div-zero, add-zero, signed-zero, zero-below, le-plain, from-zero-on}
 
 -- ---- rising maps
@@ -179,18 +180,15 @@ walk-up (point ∷ rest) secs from tempo beat further s r p q h k =
     at : FromZero (point .at)
     at = passed secs from tempo s point (r .0) .beat
 
-    true-is : (b : Bool) → b ≡ true → T b
-    true-is b e = subst T (sym e) tt
-
     go : (b c : Bool) → (T (le (point .at) beat) → Up (walkTo beat rest there (point .at) (point .tempo)) (walkTo further rest there (point .at) (point .tempo)))
         → le beat (point .at) ≡ b → le further (point .at) ≡ c
         → Up (cond b (elapsed secs from beat tempo) (walkTo beat rest there (point .at) (point .tempo))) (cond c (elapsed secs from further tempo) (walkTo further rest there (point .at) (point .tempo)))
     go true true next e f = elapsed-up secs from tempo s beat further p q h k
     go true false next e f =
         up-trans (elapsed secs from beat tempo) there (walkTo further rest there (point .at) (point .tempo))
-        (elapsed-up secs from tempo s beat (point .at) p at h (true-is (le beat (point .at)) e))
+        (elapsed-up secs from tempo s beat (point .at) p at h (holds (le beat (point .at)) e))
         (walk-more rest there (point .at) (point .tempo) further (passed secs from tempo s point (r .0)) (r .1) q (turned further (point .at) q at f))
-    go false true next e f = absurd (subst T e (le-through beat further (point .at) p q at k (true-is (le further (point .at)) f)))
+    go false true next e f = absurd (subst T e (le-through beat further (point .at) p q at k (holds (le further (point .at)) f)))
     go false false next e f = next (turned beat (point .at) p at e)
 
 -- ---- the law

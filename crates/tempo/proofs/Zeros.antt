@@ -1,8 +1,8 @@
 -- A beat that is a zero with a sign is worked out as zero: its difference from a zero is a zero, and adding a zero of either sign is adding nothing.
-use mathlib.Core.Path.{_≡_, refl, sym, _∙_, subst}
+use mathlib.Core.Path.{_≡_, refl, sym, _∙_}
 use mathlib.Core.Bool.{Bool, true, false, not, _&&_, _||_, cond, Bool·beq}
-use Prim.Native.Nat.{ℕ, zero, suc, _+_, _-_, _*_, _^_, _≤_, _<_}
-use native.Mathlib.Nat.{le-refl, mul-pos, lt-irrefl, zero-mul, zero-add, mul-comm, mul-assoc, mul-left-comm}
+use Prim.Native.Nat.{ℕ, suc, _+_, _-_, _*_, _^_, _≤_, _<_}
+use native.Mathlib.Nat.{le-refl, mul-pos, zero-mul, zero-add, mul-comm, mul-assoc, mul-left-comm}
 use native.Mathlib.Omega.{arith}
 use lib.IntN.{ℤ, pos}
 use lib.Dec.{T, ltb, eqb, eqb→eq, ltb→lt}
@@ -13,8 +13,9 @@ use lib.Ieee.Fits.{up-pos, down-pos, and-l, and-r}
 use lib.Ieee.Exact.{HasValue, round-exact}
 use lib.Ieee.Positive.{positive}
 use lib.Ieee.Scale.{finite, round-same}
+use Rattle.numbers.proofs.Laws.{factor-zero}
 use Rattle.rounding.specs.Floats.{float0, withoutSign}
-use Rattle.tempo.proofs.Upward.{Up, up→le, not-zero, from-zero}
+use Rattle.rounding.proofs.Laws.{Up, up→le, not-zero, from-zero}
 
 -- a zero, of either sign
 abbrev pub Zero : Float → Type 0
@@ -24,17 +25,10 @@ Zero (fin s m e) = m ≡ 0
 
 -- ---- operations on zeros
 
-none : (m u : ℕ) → 0 < u → m * u ≡ 0 → m ≡ 0
-none zero u h e = refl
-none (suc m) u h e = absurd (lt-irrefl 0 (subst (λ (k : ℕ). 0 < k) e (mul-pos (positive-suc m) h)))
-  where
-    positive-suc : (n : ℕ) → 0 < suc n
-    positive-suc n = omega arith
-
 zero-value : (x : Float) (s : Bool) (c : ℕ) → 0 < c → HasValue x s 0 c → Zero x
 zero-value nan s c C h = h
 zero-value (inf t) s c C h = h
-zero-value (fin t m e) s c C h = none m (up e) (up-pos e) (none (m * up e) c C (h .1 ∙ zero-mul (down e)))
+zero-value (fin t m e) s c C h = factor-zero m (up e) (up-pos e) (factor-zero (m * up e) c C (h .1 ∙ zero-mul (down e)))
 
 round-zero : (f : Format) (s : Bool) (a c : ℕ) → a ≡ 0 → 0 < c → Zero (round f s a c)
 round-zero f s a c is C =
@@ -117,7 +111,7 @@ pub record FromZero (beat : Float) : Type 0 where
 -- one that has a sign is a zero
 pub signed-zero : (m : ℕ) (e : ℤ) → T (le float0 (fin true m e)) → m ≡ 0
 unfolding le lt eq
-signed-zero m e h = none m (up e) (up-pos e) (go (m * up e) (down e) (eqb→eq (0 * down e) (m * up e * 1) (and-l (eqb (0 * down e) (m * up e * 1)) (eqb (0 * down e) 0) h)))
+signed-zero m e h = factor-zero m (up e) (up-pos e) (go (m * up e) (down e) (eqb→eq (0 * down e) (m * up e * 1) (and-l (eqb (0 * down e) (m * up e * 1)) (eqb (0 * down e) 0) h)))
   where
     go : (a c : ℕ) → 0 * c ≡ a * 1 → a ≡ 0
     go a c e = omega arith
@@ -127,7 +121,7 @@ pub zero-below : (m : ℕ) (e : ℤ) (n : ℕ) (d : ℤ) → Up (fin false m e) 
 zero-below m e n d h is =
     let l : m * up e * down d ≤ n * up d * down e = h in
     let z : n * up d * down e ≡ 0 = times-zero n (up d) (down e) is in
-    none m (up e) (up-pos e) (none (m * up e) (down d) (down-pos d) (omega arith))
+    factor-zero m (up e) (up-pos e) (factor-zero (m * up e) (down d) (down-pos d) (omega arith))
 
 -- the order does not look at that sign
 at-zero : (a : ℕ) → (ltb a 0 || (eqb a 0 && true)) ≡ (eqb a 0 && eqb a 0)
@@ -172,7 +166,7 @@ from-zero-on (fin false m e) (fin true n d) p q h =
     let a = m * up e * down d in
     let b = n * up d * down e in
     let level : b ≡ 0 = sym (eqb→eq a b (and-l (eqb a b) (eqb a 0) h)) ∙ eqb→eq a 0 (and-r (eqb a b) (eqb a 0) h) in
-    record { number = tt; reached = reach-zero n d (none n (up d) (up-pos d) (none (n * up d) (down e) (down-pos e) level)) }
+    record { number = tt; reached = reach-zero n d (factor-zero n (up d) (up-pos d) (factor-zero (n * up d) (down e) (down-pos e) level)) }
 from-zero-on (fin true m e) (fin true n d) p q h =
     let level : n * up d * down e ≡ 0 = below-zero (m * up e * down d) (n * up d * down e) (times-zero m (up e) (down d) (signed-zero m e (p .reached))) h in
-    record { number = tt; reached = reach-zero n d (none n (up d) (up-pos d) (none (n * up d) (down e) (down-pos e) level)) }
+    record { number = tt; reached = reach-zero n d (factor-zero n (up d) (up-pos d) (factor-zero (n * up d) (down e) (down-pos e) level)) }

@@ -1,7 +1,7 @@
 -- Texts put one behind another are one text put; and the digits of a number, from the last on.
 use mathlib.Core.Path.{_≡_, refl, sym, ap, _∙_}
 use mathlib.Core.List.{List, [], _∷_, _++_, append-assoc}
-use Prim.Native.Nat.{ℕ, zero, suc, _+_, _-_, _*_, _/_, _%_, _≤_, _<_}
+use Prim.Native.Nat.{ℕ, zero, suc, _+_, _-_, _/_, _%_, _≤_, _<_}
 use native.Mathlib.Omega.{arith}
 use native.Mathlib.Numerals.{add-one}
 use lib.ListN.{length, take, drop, set, getD, length-append, length-drop, take-append-drop}
@@ -14,6 +14,13 @@ length-put at t out h = simp (length-append, length-take-le at out (omega arith)
 
 pub same : {at next : ℕ} {t out after : List ℕ} → at + length t ≤ length out → Puts at t out next after → length after ≡ length out
 same {at} {next} {t} {out} h p = ap length (p .after-is) ∙ length-put at t out h
+
+-- a text put at the front, and how many bytes it has
+pub counted : {r : ℕ} {t out now : List ℕ} → Puts 0 t out r now → r ≤ length out → (r ≤ length now) × (r ≡ length (take r now))
+counted {r} {t} {out} {now} x h =
+    let e : length now ≡ length out = same (omega (arith, x .next-is)) x in
+    let f : r ≤ length now = omega arith in
+    (f, sym (length-take-le r now f))
 
 -- a byte stored
 pub one : (out : List ℕ) (at b : ℕ) → at + 1 ≤ length out → Puts at (b ∷ []) out (at + 1) (set out at b)

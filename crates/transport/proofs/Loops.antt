@@ -6,7 +6,7 @@ use native.Mathlib.Omega.{arith}
 use mathlib.Core.Bool.{true, _&&_}
 use lib.Dec.{ltb, leb}
 use borrow.Author.Tests.{ltb-true, leb-true}
-use Rattle.beats.proofs.Laws.{and-left, and-right}
+use Rattle.numbers.proofs.Laws.{and-left, and-right}
 use Rattle.meter.specs.Meters.{soundPickup}
 use Rattle.transport.specs.declared.LoopRange.{LoopRange}
 use Rattle.transport.specs.declared.LoopRange.the-variants.{On}

@@ -20,7 +20,7 @@ pub fn fresh(rate: u32, bpm: f32, beats: u32, length: u64, pickup: Pickup) -> Tr
     Transport {
         sample_rate: rate,
         bpm,
-        beats_per_bar: if beats == 0 { 1 } else { beats },
+        beats_per_bar: numbers::larger(beats, 1),
         length,
         position: 0,
         state: PlayState::Stopped,

@@ -1,10 +1,11 @@
 -- Other bytes are refused; a score file's answer is that of what was read.
-use mathlib.Core.Path.{_≡_, sym, ap, _∙_}
+use mathlib.Core.Path.{sym, ap, _∙_}
 use native.Mathlib.Omega.{arith}
 use borrow.Author.Needs.{needs}
 use Rattle.score.specs.Readings.{readScore}
-use Rattle.text.proofs.Laws.{retext}
-use Rattle.count_text.proofs.Files.{counted, refusal-is, meters-few, pickup-sound, file-is}
+use Rattle.score.proofs.Laws.{meters-few, pickup-sound}
+use Rattle.text.proofs.Laws.{retext, counted}
+use Rattle.count_text.proofs.Files.{refusal-is, file-is}
 use Rattle.count_text.proofs.count_of.Statement.{statement}
 use Rattle.count_text.proofs.count_of.Tie as tie
 

@@ -3,8 +3,9 @@ use mathlib.Core.Path.{sym, ap, _∙_}
 use native.Mathlib.Omega.{arith}
 use borrow.Author.Needs.{needs}
 use Rattle.score.specs.Readings.{readScore}
-use Rattle.text.proofs.Laws.{retext}
-use Rattle.form_text.proofs.Files.{counted, refusal-is, meters-few, tempos-few, form-is}
+use Rattle.score.proofs.Laws.{meters-few, tempos-few}
+use Rattle.text.proofs.Laws.{retext, counted}
+use Rattle.form_text.proofs.Files.{refusal-is, form-is}
 use Rattle.form_text.proofs.form_of.Statement.{statement}
 use Rattle.form_text.proofs.form_of.Tie as tie
 

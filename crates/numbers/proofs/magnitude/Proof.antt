@@ -1,4 +1,4 @@
--- `beat::magnitude` meets its contract. Assumes nothing.
+-- Below zero -1 - x is turned first, so that the least i64 has a size too.
 use borrow.Author.Needs.{needs}
 use mathlib.Core.Path.{sym}
 use native.Mathlib.Omega.{arith}

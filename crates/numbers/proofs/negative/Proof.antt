@@ -1,4 +1,4 @@
--- `beat::negative` meets its contract. Assumes nothing.
+-- The test `x < 0`, as the machine makes it on the bits of x.
 use Rattle.numbers.proofs.Signs.{test}
 use Rattle.numbers.proofs.negative.Statement.{statement}
 use Rattle.numbers.proofs.negative.Tie as tie

@@ -5,12 +5,13 @@ use Prim.Native.Nat.{ℕ, _+_, _*_}
 use native.Mathlib.Omega.{arith}
 use lib.ListN.{length, drop}
 use borrow.Author.Needs.{needs}
+use Rattle.numbers.proofs.Laws.{product-fits}
 use Rattle.notes.specs.declared.Note.{Note}
 use Rattle.notes.specs.Notes.{notesOf, wordsOf}
 use Rattle.notes.proofs.Laws.{One, one}
 use Rattle.rhythm.specs.Joins.{copiesFrom}
 use Rattle.rhythm.specs.Values.{totalSteps}
-use Rattle.rhythm.proofs.Laws.{product-fits, count-copies}
+use Rattle.rhythm.proofs.Laws.{count-copies}
 use Rattle.pattern.proofs.Outcomes.{by-number, one-number-is, passed, no-room, wrote}
 use Rattle.pattern.proofs.repeat.Tie as tie
 use Rattle.pattern.proofs.repeat.Statement.{statement}

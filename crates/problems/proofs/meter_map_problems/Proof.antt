@@ -1,4 +1,6 @@
--- `problems::meter_map_problems` meets its contract: a walk of its MIR, by hand. The slice of points is looked into once, before the loop, and shut after it. Each turn takes one point out of the row, copies it whole and puts it back; lends `out` again, for a lifetime that is made for the call; and hands it to `step` with the state and the point's three numbers. What is left to show of states and words is in `Walking`.
+-- `problems::meter_map_problems` meets its contract: a walk of its MIR, by hand. The slice of points is looked into once, before the loop, and shut after it.
+-- Each turn takes one point out of the row, copies it whole and puts it back; lends `out` again, for a lifetime that is made for the call; and hands it to `step` with the state and the point's three numbers.
+-- What is left to show of states and words is in `Walking`.
 -- All that the proof knows of `begin`, `step` and `finish` is that they meet their contracts.
 -- Assumes nothing.
 use mathlib.Core.Path.{_≡_, refl, sym, ap, _∙_, subst}

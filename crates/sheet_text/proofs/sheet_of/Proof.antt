@@ -1,11 +1,11 @@
 -- Other bytes are refused; a score file's sheet is that of what was read.
-use mathlib.Core.Path.{_≡_, sym, ap, _∙_}
+use mathlib.Core.Path.{sym, ap, _∙_}
 use native.Mathlib.Omega.{arith}
 use borrow.Author.Needs.{needs}
-use Rattle.score.specs.declared.ScoreAnswer.{ScoreAnswer}
 use Rattle.score.specs.Readings.{readScore}
-use Rattle.text.proofs.Laws.{retext}
-use Rattle.sheet_text.proofs.Files.{counted, refusal-is, meters-few, tempos-few, sheet-is}
+use Rattle.score.proofs.Laws.{meters-few, tempos-few}
+use Rattle.text.proofs.Laws.{retext, counted}
+use Rattle.sheet_text.proofs.Files.{refusal-is, sheet-is}
 use Rattle.sheet_text.proofs.sheet_of.Statement.{statement}
 use Rattle.sheet_text.proofs.sheet_of.Tie as tie
 

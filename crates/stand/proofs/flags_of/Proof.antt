@@ -1,6 +1,5 @@
 -- By the two flags.
 use Rattle.stand.specs.Words.{flags}
-use borrow.Author.Needs.{needs}
 use Rattle.stand.proofs.flags_of.Statement.{statement}
 use Rattle.stand.proofs.flags_of.Tie as tie
 

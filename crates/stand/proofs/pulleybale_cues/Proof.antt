@@ -1,12 +1,15 @@
 -- By the answer below: the number, the clock's words, the count and the flags; the cues are those below.
 use mathlib.Core.Path.{_≡_, sym, ap, _∙_}
+use mathlib.Core.List.{List, []}
+use Prim.Native.Nat.{ℕ}
+use Rattle.numbers.specs.Answers.{refused}
 use Rattle.transport.specs.Changes.{Handed}
-use Rattle.cues.specs.CueCall.{Said}
+use Rattle.cues.specs.CueCall.{Said, cueAfter}
 use Rattle.cues.specs.Readings.{readReport, readCues}
 use Rattle.stand.specs.Calls.{cued}
 use Rattle.stand.specs.Words.{saidCount, saidFlags}
 use Rattle.stand.proofs.Answers.{number-accepted, gave, clock-placed}
-use Rattle.stand.proofs.Calls.{cued-is, cues-are, nothing-cued}
+use Rattle.stand.proofs.Calls.{cued-is, cues-are, Uncued, nothing-cued}
 use borrow.Author.Needs.{needs}
 use Rattle.stand.proofs.pulleybale_cues.Statement.{statement}
 use Rattle.stand.proofs.pulleybale_cues.Tie as tie
@@ -19,6 +22,17 @@ answer c =
     let a = start c .args in
     let t = c .before .before .clock-of in
     cued-is (a .clock .now) (t .result) (t .ensures) (a .lines .now) (a .frames) (a .cues .now) (c .cue .result) (c .cue .ensures .0)
+
+-- a refused call
+uncued : {n : ℕ} {after : List ℕ} (r : tie.After-cue) →
+    (let a = start r .args in
+    after ≡ cueAfter (r .before .before .clock-of .result) (a .lines .now) (a .frames) (a .cues .now) → readReport (r .cue .result .report) ≡ refused n []
+    → Uncued (a .clock .now) (a .lines .now) (a .frames) (a .cues .now) (a .count .now) (a .report .now) after n)
+uncued r e f =
+    let a = start r .args in
+    let t = r .before .before .clock-of in
+    nothing-cued (a .clock .now) (a .lines .now) (a .frames) (a .cues .now) (a .count .now) (a .report .now) _ (r .cue .result) (answer r) f
+    (cues-are (a .clock .now) (t .result) (t .ensures) (a .lines .now) (a .frames) (a .cues .now) _ e)
 
 clock-of-requires : tie.Need-clock-of-requires
 clock-of-requires c κs = search needs
@@ -70,56 +84,31 @@ same-length-2 : tie.Need-same-length-2
 same-length-2 c = search needs
 
 returns-2 : tie.Need-returns-2
-returns-2 c =
-    let r = c .before .before .before .before .before in
-    let a = start r .args in
-    let t = r .before .before .clock-of in
-    let cues = cues-are (a .clock .now) (t .result) (t .ensures) (a .lines .now) (a .frames) (a .cues .now) _ (r .cue .ensures .1) in
-    nothing-cued (a .clock .now) (a .lines .now) (a .frames) (a .cues .now) (a .count .now) (a .report .now) _ (r .cue .result) (answer r) (ap readReport (c .enum-told .given .1)) cues
+returns-2 c = let r = c .before .before .before .before .before in uncued r (r .cue .ensures .1) (ap readReport (c .enum-told .given .1))
 
 same-length-3 : tie.Need-same-length-3
 same-length-3 c = search needs
 
 returns-3 : tie.Need-returns-3
-returns-3 c =
-    let r = c .before .before .before .before .before in
-    let a = start r .args in
-    let t = r .before .before .clock-of in
-    let cues = cues-are (a .clock .now) (t .result) (t .ensures) (a .lines .now) (a .frames) (a .cues .now) _ (r .cue .ensures .1) in
-    nothing-cued (a .clock .now) (a .lines .now) (a .frames) (a .cues .now) (a .count .now) (a .report .now) _ (r .cue .result) (answer r) (ap readReport (c .enum-told2 .given .1)) cues
+returns-3 c = let r = c .before .before .before .before .before in uncued r (r .cue .ensures .1) (ap readReport (c .enum-told2 .given .1))
 
 same-length-4 : tie.Need-same-length-4
 same-length-4 c = search needs
 
 returns-4 : tie.Need-returns-4
-returns-4 c =
-    let r = c .before .before .before .before .before in
-    let a = start r .args in
-    let t = r .before .before .clock-of in
-    let cues = cues-are (a .clock .now) (t .result) (t .ensures) (a .lines .now) (a .frames) (a .cues .now) _ (r .cue .ensures .1) in
-    nothing-cued (a .clock .now) (a .lines .now) (a .frames) (a .cues .now) (a .count .now) (a .report .now) _ (r .cue .result) (answer r) (ap readReport (c .enum-told3 .given .1)) cues
+returns-4 c = let r = c .before .before .before .before .before in uncued r (r .cue .ensures .1) (ap readReport (c .enum-told3 .given .1))
 
 same-length-5 : tie.Need-same-length-5
 same-length-5 c = search needs
 
 returns-5 : tie.Need-returns-5
-returns-5 c =
-    let r = c .before .before .before .before .before in
-    let a = start r .args in
-    let t = r .before .before .clock-of in
-    let cues = cues-are (a .clock .now) (t .result) (t .ensures) (a .lines .now) (a .frames) (a .cues .now) _ (r .cue .ensures .1) in
-    nothing-cued (a .clock .now) (a .lines .now) (a .frames) (a .cues .now) (a .count .now) (a .report .now) _ (r .cue .result) (answer r) (ap readReport (c .enum-told4 .given .1)) cues
+returns-5 c = let r = c .before .before .before .before .before in uncued r (r .cue .ensures .1) (ap readReport (c .enum-told4 .given .1))
 
 same-length-6 : tie.Need-same-length-6
 same-length-6 c = search needs
 
 returns-6 : tie.Need-returns-6
-returns-6 c =
-    let r = c .before .before .before .before .before in
-    let a = start r .args in
-    let t = r .before .before .clock-of in
-    let cues = cues-are (a .clock .now) (t .result) (t .ensures) (a .lines .now) (a .frames) (a .cues .now) _ (r .cue .ensures .1) in
-    nothing-cued (a .clock .now) (a .lines .now) (a .frames) (a .cues .now) (a .count .now) (a .report .now) _ (r .cue .result) (answer r) (ap readReport (c .enum-told5 .given .1)) cues
+returns-6 c = let r = c .before .before .before .before .before in uncued r (r .cue .ensures .1) (ap readReport (c .enum-told5 .given .1))
 
 pub pulleybale-cues-spec : {M : Type 1} → statement M
 pulleybale-cues-spec =

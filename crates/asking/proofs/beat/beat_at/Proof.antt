@@ -6,7 +6,7 @@ use lib.ListN.{getD, List·getD-eq-default}
 use mir.Syntax.{w64}
 use mir.ValLaws.{toZ-ofZ}
 use borrow.Author.Needs.{needs}
-use Rattle.asking.specs.Fields.{signedOf}
+use Rattle.numbers.specs.Bits.{signedOf}
 use Rattle.asking.proofs.beat.beat_at.Statement.{statement}
 use Rattle.asking.proofs.beat.beat_at.Tie as tie
 

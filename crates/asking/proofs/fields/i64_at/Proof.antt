@@ -3,7 +3,7 @@ use mathlib.Core.Path.{ap, _∙_}
 use mir.Syntax.{w64}
 use mir.ValLaws.{toZ-ofZ}
 use borrow.Author.Needs.{needs}
-use Rattle.asking.specs.Fields.{signedOf}
+use Rattle.numbers.specs.Bits.{signedOf}
 use Rattle.asking.proofs.fields.i64_at.Statement.{statement}
 use Rattle.asking.proofs.fields.i64_at.Tie as tie
 

@@ -5,8 +5,8 @@ use borrow.Author.Needs.{needs}
 use Rattle.beats.proofs.frames.float_of.Statement.{statement}
 use Rattle.beats.proofs.frames.float_of.Tie as tie
 
-nearest-i64-to-f64-requires : tie.Need-nearest-i64-to-f64-requires
-nearest-i64-to-f64-requires c κs = search needs
+float-near-requires : tie.Need-float-near-requires
+float-near-requires c κs = search needs
 
 int-to-float-result : tie.Need-int-to-float-result
 int-to-float-result c = search needs
@@ -17,4 +17,4 @@ returns c =
     cc (toZ-ofZ w64 (t .before .args .beat .num) (record { sfits = t .struct-told .given .0 .1 }))
 
 pub float-of-spec : {M : Type 1} → statement M
-float-of-spec = tie.close (tie.spec nearest-i64-to-f64-requires int-to-float-result returns)
+float-of-spec = tie.close (tie.spec float-near-requires int-to-float-result returns)

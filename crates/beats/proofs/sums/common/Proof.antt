@@ -1,11 +1,11 @@
 -- Two factors below 2^32 have a product below 2^64.
-use Rattle.beats.proofs.Fitted.{dens-fit}
+use Rattle.numbers.proofs.Laws.{product-fits}
 use borrow.Author.Needs.{needs}
 use Rattle.beats.proofs.sums.common.Statement.{statement}
 use Rattle.beats.proofs.sums.common.Tie as tie
 
 mul-result : tie.Need-mul-result
-mul-result c = record { fits = dens-fit (search needs) (search needs) }
+mul-result c = record { fits = product-fits _ _ (search needs) (search needs) }
 
 returns : tie.Need-returns
 returns c = search needs

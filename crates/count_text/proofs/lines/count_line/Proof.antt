@@ -1,5 +1,4 @@
 -- Five texts one behind another. A beat's text has at most 31 bytes.
-use mathlib.Core.Path.{_≡_, refl, sym, ap, _∙_}
 use native.Mathlib.Omega.{arith}
 use borrow.Author.Needs.{needs}
 use Prim.Native.Nat.{_^_, _≤_, _<_}
@@ -31,10 +30,19 @@ bytes-requires : tie.Need-bytes-requires
 bytes-requires c κs = omega arith
 
 beat-requires : tie.Need-beat-requires
-beat-requires c κs = omega (arith, short (c .before .before .before .before .before .before .before .before .before .before .before .before .before .before .before), c .before .before .before .bytes .ensures .next-is, c .before .before .before .before .before .before .before .before .unit .ensures .1, c .before .before .before .before .before .before .before .before .before .before .before .before .amount .ensures .1)
+beat-requires c κs =
+    let text = c .before .before .before in
+    let unit = text .before .before .before .before .before in
+    let amount = unit .before .before .before .before in
+    omega (arith, short (amount .before .before .before), text .bytes .ensures .next-is, unit .unit .ensures .1, amount .amount .ensures .1)
 
 byte-requires : tie.Need-byte-requires
-byte-requires c κs = omega (arith, short (c .before .before .before .before .before .before .before .before .before .before .before .before .before .before .before .before .before .before .before), c .before .before .before .beat .ensures .next-is, c .before .before .before .before .before .before .before .bytes .ensures .next-is, c .before .before .before .before .before .before .before .before .before .before .before .before .unit .ensures .1, c .before .before .before .before .before .before .before .before .before .before .before .before .before .before .before .before .amount .ensures .1)
+byte-requires c κs =
+    let beat = c .before .before .before in
+    let text = beat .before .before .before .before in
+    let unit = text .before .before .before .before .before in
+    let amount = unit .before .before .before .before in
+    omega (arith, short (amount .before .before .before), beat .beat .ensures .next-is, text .bytes .ensures .next-is, unit .unit .ensures .1, amount .amount .ensures .1)
 
 same-length : tie.Need-same-length
 same-length c = search needs

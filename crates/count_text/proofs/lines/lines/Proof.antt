@@ -1,5 +1,4 @@
 -- Three lines one behind another.
-use mathlib.Core.Path.{_≡_, refl, sym, ap, _∙_}
 use native.Mathlib.Omega.{arith}
 use borrow.Author.Needs.{needs}
 use Rattle.count_text.proofs.Parts.{lines-put}

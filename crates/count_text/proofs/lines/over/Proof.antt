@@ -1,5 +1,4 @@
 -- Nothing up to twenty, and else the bars past twenty.
-use mathlib.Core.Path.{_≡_, refl, sym, ap, _∙_}
 use native.Mathlib.Omega.{arith}
 use borrow.Author.Needs.{needs}
 use Rattle.count_text.proofs.Parts.{none-over, some-over}

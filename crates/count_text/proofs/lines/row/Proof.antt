@@ -1,5 +1,4 @@
 -- Brackets, and between them the two kinds of squares.
-use mathlib.Core.Path.{_≡_, refl, sym, ap, _∙_}
 use native.Mathlib.Omega.{arith}
 use borrow.Author.Needs.{needs}
 use Rattle.count_text.proofs.Parts.{row-put}
@@ -28,7 +27,11 @@ squares-requires-2 : tie.Need-squares-requires-2
 squares-requires-2 c κs = omega (arith, c .before .before .before .squares .ensures .1, c .before .before .before .before .before .before .before .byte .ensures .next-is, c .before .before .before .before .before .before .before .before .before .filled .ensures)
 
 byte-requires-2 : tie.Need-byte-requires-2
-byte-requires-2 c κs = omega (arith, c .before .before .before .squares2 .ensures .1, c .before .before .before .before .before .before .before .squares .ensures .1, c .before .before .before .before .before .before .before .before .before .before .before .byte .ensures .next-is, c .before .before .before .before .before .before .before .before .before .before .before .before .before .filled .ensures)
+byte-requires-2 c κs =
+    let behind = c .before .before .before in
+    let front = behind .before .before .before .before in
+    let start = front .before .before .before .before in
+    omega (arith, behind .squares2 .ensures .1, front .squares .ensures .1, start .byte .ensures .next-is, start .before .before .filled .ensures)
 
 same-length : tie.Need-same-length
 same-length c = search needs

@@ -1,5 +1,4 @@
 -- The lines are those of what was worked out.
-use mathlib.Core.Path.{_≡_, refl, sym, ap, _∙_}
 use native.Mathlib.Omega.{arith}
 use borrow.Author.Needs.{needs}
 use Rattle.text.proofs.Laws.{retext}

@@ -1,5 +1,5 @@
 -- By the one number behind the key.
-use mathlib.Core.Path.{_≡_, refl, sym, ap, _∙_, subst}
+use mathlib.Core.Path.{sym, ap, _∙_}
 use borrow.Author.Needs.{needs}
 use Rattle.items.specs.Items.{beatsItem}
 use Rattle.items.proofs.keys.beats.Statement.{statement}

@@ -1,5 +1,5 @@
 -- By the first key that the word is.
-use mathlib.Core.Path.{_≡_, refl, sym, ap, _∙_, subst}
+use mathlib.Core.Path.{sym, _∙_}
 use borrow.Author.Needs.{needs}
 use Rattle.items.proofs.Tests.{key-rate, key-beats, key-tempo, key-pickup, key-meter, key-none}
 use Rattle.items.proofs.keys.keyed.Statement.{statement}

@@ -1,8 +1,7 @@
 -- By the first slash, and by the numbers before and behind it.
-use mathlib.Core.Path.{_≡_, refl, sym, ap, _∙_, subst}
+use mathlib.Core.Path.{refl, sym, _∙_}
 use native.Mathlib.Omega.{arith}
 use borrow.Author.Needs.{needs}
-use lib.ListN.{length}
 use Rattle.items.proofs.Tests.{no-slash, over-is}
 use Rattle.items.specs.Items.{meterBy}
 use Rattle.items.proofs.keys.meter_over.Statement.{statement}

@@ -1,5 +1,5 @@
 -- A bad bar is told first.
-use mathlib.Core.Path.{_≡_, refl, sym, ap, _∙_, subst}
+use mathlib.Core.Path.{sym, ap, _∙_}
 use borrow.Author.Needs.{needs}
 use Rattle.items.specs.Items.{barBy, meterPoint}
 use Rattle.items.specs.declared.values.Value.{Value}

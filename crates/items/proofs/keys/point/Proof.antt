@@ -1,9 +1,8 @@
 -- A bad beat is told first, then a bad tempo.
-use mathlib.Core.Path.{_≡_, refl, sym, ap, _∙_, subst}
+use mathlib.Core.Path.{refl, sym, _∙_}
 use borrow.Author.Needs.{needs}
 use Rattle.items.proofs.Tests.{point-is}
-use Rattle.items.specs.Items.{pointBy, tempoValue}
-use Rattle.spelling.specs.Words.{tempoOf}
+use Rattle.items.specs.Items.{pointBy}
 use Rattle.items.proofs.keys.point.Statement.{statement}
 use Rattle.items.proofs.keys.point.Tie as tie
 

@@ -3,11 +3,11 @@ use borrow.Author.Needs.{needs}
 use Rattle.meter.proofs.bars.unlisted.Statement.{statement}
 use Rattle.meter.proofs.bars.unlisted.Tie as tie
 
-one-at-least-requires : tie.Need-one-at-least-requires
-one-at-least-requires c κs = search needs
+larger-requires : tie.Need-larger-requires
+larger-requires c κs = search needs
 
 returns : tie.Need-returns
-returns c = λ i. record { bar = 0; numerator = c .one-at-least .ensures i; denominator = 4 }
+returns c = λ i. record { bar = 0; numerator = c .larger .ensures i; denominator = 4 }
 
 pub unlisted-spec : {M : Type 1} → statement M
-unlisted-spec = tie.close (tie.spec one-at-least-requires returns)
+unlisted-spec = tie.close (tie.spec larger-requires returns)

@@ -1,3 +1,4 @@
+-- The smaller size is taken from the larger, below zero where that is the second.
 use mathlib.Core.Path.{sym, ap, _∙_}
 use mathlib.Core.Bool.{true, false}
 use Prim.Native.Nat.{_<_, _≤_}

@@ -8,9 +8,10 @@ use native.Mathlib.Omega.{arith}
 use lib.ListN.{length}
 use borrow.Author.Needs.{needs}
 use Rattle.numbers.specs.Answers.{accepted}
+use Rattle.numbers.proofs.Laws.{never}
 use Rattle.problems.specs.Problems.{listed, tempoProblems}
 use Rattle.problems.specs.Passes.{put}
-use Rattle.problems.proofs.Calls.{ready, never, too-many, enough, few}
+use Rattle.problems.proofs.Calls.{ready, too-many, enough, few}
 use Rattle.problems.proofs.Passing.{counts}
 use Rattle.problems.proofs.changes.list.Statement.{statement}
 use Rattle.problems.proofs.changes.list.Tie as tie

@@ -43,7 +43,10 @@ unfolding tempoStart
 note-requires-2 c κs =
     let s = c .before .before .before .before .before .before .before .before .before .before in
     let at = s .args .at in
-    rw (c .before .below2 .ensures ∙ ap (belowBeat at) (c .before .before .zero2 .ensures)) (ready-then (over at) (under at) (s .pre) (rw (c .before .before .before .before .before .before .before .below .ensures ∙ ap (λ (zero : Beat). belowBeat zero at) (c .before .before .before .before .before .before .before .before .zero .ensures)) at (c .before .before .before .before .before .note .ensures)))
+    let low = c .before .before .before .before .before .before .before in
+    let first = low .below .ensures ∙ ap (λ (zero : Beat). belowBeat zero at) (low .before .zero .ensures) in
+    rw (c .before .below2 .ensures ∙ ap (belowBeat at) (c .before .before .zero2 .ensures))
+    (ready-then (over at) (under at) (s .pre) (rw first at (c .before .before .before .before .before .note .ensures)))
 
 same-length : tie.Need-same-length
 same-length c = search needs
@@ -53,7 +56,11 @@ unfolding tempoStart
 returns c =
     let s = c .before .before .before .before .before .before .before .before .before .before .before .before .before in
     let at = s .args .at in
-    passed-then (over at) (under at) (rw (c .before .before .before .before .before .before .before .before .before .before .below .ensures ∙ ap (λ (zero : Beat). belowBeat zero at) (c .before .before .before .before .before .before .before .before .before .before .before .zero .ensures)) at (c .before .before .before .before .before .before .before .before .note .ensures)) (rw (c .before .before .before .before .below2 .ensures ∙ ap (belowBeat at) (c .before .before .before .before .before .zero2 .ensures)) at (c .before .before .note2 .ensures))
+    let low = c .before .before .before .before .before .before .before .before .before .before in
+    let high = c .before .before .before .before in
+    let first = low .below .ensures ∙ ap (λ (zero : Beat). belowBeat zero at) (low .before .zero .ensures) in
+    let second = high .below2 .ensures ∙ ap (belowBeat at) (high .before .zero2 .ensures) in
+    passed-then (over at) (under at) (rw first at (c .before .before .before .before .before .before .before .before .note .ensures)) (rw second at (c .before .before .note2 .ensures))
 
 pub start-spec : {M : Type 1} → statement M
 start-spec =

@@ -4,10 +4,10 @@ use Prim.Native.Nat.{_-_, _*_, _%_, _≤_}
 use native.Mathlib.Omega.{arith}
 use lib.ListN.{length, drop, drop-of-length-le}
 use borrow.Author.Needs.{needs}
+use Rattle.numbers.proofs.Laws.{product-fits}
 use Rattle.notes.specs.Notes.{notesOf}
 use Rattle.rhythm.specs.Cuts.{noteGrid}
 use Rattle.rhythm.proofs.Gridding.{step-off, len-off, on, all-on}
-use Rattle.rhythm.proofs.Sums.{product-fits}
 use Rattle.rhythm.proofs.cutting.note_off_grid.Tie as tie
 use Rattle.rhythm.proofs.cutting.note_off_grid.Statement.{statement}
 

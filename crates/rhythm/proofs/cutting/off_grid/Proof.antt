@@ -1,9 +1,9 @@
 -- The bars, then the notes.
 use mathlib.Core.Path.{sym, _∙_}
 use borrow.Author.Needs.{needs}
+use Rattle.numbers.proofs.Laws.{product-fits}
 use Rattle.notes.specs.Notes.{notesOf}
 use Rattle.rhythm.proofs.Gridding.{bars-off, bars-on}
-use Rattle.rhythm.proofs.Sums.{product-fits}
 use Rattle.rhythm.proofs.cutting.off_grid.Tie as tie
 use Rattle.rhythm.proofs.cutting.off_grid.Statement.{statement}
 

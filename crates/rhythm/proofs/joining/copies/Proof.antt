@@ -7,12 +7,13 @@ use native.Mathlib.Numerals.{add-one}
 use native.Mathlib.Omega.{arith}
 use lib.ListN.{length, drop}
 use borrow.Author.Needs.{needs}
+use Rattle.numbers.proofs.Laws.{one-more}
 use Rattle.notes.specs.declared.Note.{Note}
 use Rattle.notes.specs.Notes.{notesOf, wordsOf}
 use Rattle.notes.proofs.Laws.{Writing, begin-by, more-part, finish}
 use Rattle.rhythm.specs.Joins.{later, copiesFrom}
 use Rattle.rhythm.specs.Values.{mostStep}
-use Rattle.rhythm.proofs.Repeats.{capped-more, within, copies-turn, copies-all, copies-none, copies-of-none, length-copy}
+use Rattle.rhythm.proofs.Repeats.{capped-more, copies-turn, copies-all, copies-none, copies-of-none, length-copy}
 use Rattle.rhythm.proofs.joining.copies.Tie as tie
 use Rattle.rhythm.proofs.joining.copies.Statement.{statement}
 
@@ -28,7 +29,7 @@ abbrev μ-loop : tie.MeasureT-loop
 room : (c : tie.In-loop Inv-loop μ-loop) → c .before .loop .at + length (c .before .before .before .before .before .before .args .words .now) ≤ length (c .before .loop .out)
 room c =
     let s = c .before .before .before .before .before .before in
-    omega (arith, within (length (s .args .words .now)) (c .before .loop .i) (s .args .times) (c .loop-test .taken), s .pre)
+    omega (arith, one-more (length (s .args .words .now)) (c .before .loop .i) (s .args .times) (c .loop-test .taken), s .pre)
 
 -- no notes, no copies
 nothing : (ws out : List ℕ) (stride times : ℕ) → length ws ≡ 0 → out ≡ wordsOf (copiesFrom stride (notesOf ws) 0 times) ++ drop (length ws * times) out

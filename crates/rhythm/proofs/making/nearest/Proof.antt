@@ -4,8 +4,9 @@ use Prim.Native.Nat.{ℕ, _-_, _*_, _%_, _^_, _≤_, _<_, min}
 use native.Mathlib.Nat.{mul-le-mul, div-le-self, mod-lt}
 use native.Mathlib.Omega.{arith}
 use borrow.Author.Needs.{needs}
+use Rattle.numbers.proofs.Laws.{product-fits}
 use Rattle.rhythm.specs.Values.{mostStep}
-use Rattle.rhythm.proofs.Sums.{product-fits, under-half, from-half}
+use Rattle.rhythm.proofs.Sums.{under-half, from-half}
 use Rattle.rhythm.proofs.making.nearest.Tie as tie
 use Rattle.rhythm.proofs.making.nearest.Statement.{statement}
 

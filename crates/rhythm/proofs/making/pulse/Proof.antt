@@ -3,7 +3,7 @@ use Prim.Native.Nat.{_-_, _*_, _^_, _≤_}
 use native.Mathlib.Nat.{mul-le-mul, div-lt-iff-lt-mul}
 use native.Mathlib.Omega.{arith}
 use borrow.Author.Needs.{needs}
-use Rattle.rhythm.proofs.Sums.{product-fits}
+use Rattle.numbers.proofs.Laws.{product-fits}
 use Rattle.rhythm.proofs.making.pulse.Tie as tie
 use Rattle.rhythm.proofs.making.pulse.Statement.{statement}
 

@@ -2,7 +2,7 @@
 use mathlib.Core.Path.{ap}
 use Prim.Native.Nat.{ℕ, _*_, _^_, _<_}
 use borrow.Author.Needs.{needs}
-use Rattle.rhythm.proofs.Sums.{product-fits}
+use Rattle.numbers.proofs.Laws.{product-fits}
 use Rattle.rhythm.proofs.steps.total.Tie as tie
 use Rattle.rhythm.proofs.steps.total.Statement.{statement}
 

@@ -9,8 +9,8 @@ use lib.ListN.{drop}
 use mir.Syntax.{w64}
 use mir.Val.{toZ, ofZ}
 use mir.ValLaws.{toZ-ofZ}
+use Rattle.numbers.proofs.Laws.{Writing, begin-by, more-word, finish}
 use Rattle.score.specs.Bytes.{numberAt, each}
-use Rattle.score.proofs.Writing.{Writing, begin-by, more-word, finish}
 use Rattle.score.proofs.Places.{each-step, no-each}
 use Rattle.score.proofs.words.copy_numbers.Statement.{statement}
 use Rattle.score.proofs.words.copy_numbers.Tie as tie

@@ -5,9 +5,9 @@ use Prim.Native.Nat.{ℕ, _+_, _-_, _*_, _≤_}
 use native.Mathlib.Omega.{arith}
 use borrow.Author.Needs.{needs}
 use lib.ListN.{drop}
+use Rattle.numbers.proofs.Laws.{one-more, Writing, begin-by, more-word, finish}
 use Rattle.score.specs.Bytes.{wordAt, each}
-use Rattle.score.proofs.Writing.{Writing, begin-by, more-word, finish}
-use Rattle.score.proofs.Places.{each-step, no-each, steps}
+use Rattle.score.proofs.Places.{each-step, no-each}
 use Rattle.score.proofs.words.copy_words.Statement.{statement}
 use Rattle.score.proofs.words.copy_words.Tie as tie
 
@@ -25,7 +25,7 @@ word-at-requires : tie.Need-word-at-requires Inv-loop μ-loop
 word-at-requires c κs =
     let l = c .before in
     let a = l .before .before .before .args in
-    omega (arith, steps (a .step) (l .loop .k) (a .count) (c .loop-test .taken))
+    omega (arith, one-more (a .step) (l .loop .k) (a .count) (c .loop-test .taken))
 
 mul-out : tie.Need-mul-out Inv-loop μ-loop
 mul-out c = search needs
@@ -37,7 +37,7 @@ add-p : tie.Need-add-p Inv-loop μ-loop
 add-p c =
     let l = c .before .before in
     let a = l .before .before .before .args in
-    omega (arith, steps (a .step) (l .loop .k) (a .count) (c .before .loop-test .taken))
+    omega (arith, one-more (a .step) (l .loop .k) (a .count) (c .before .loop-test .taken))
 
 add-k : tie.Need-add-k Inv-loop μ-loop
 add-k c = search needs

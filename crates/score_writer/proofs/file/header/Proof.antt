@@ -3,8 +3,9 @@ use mathlib.Core.Path.{ap, _∙_}
 use borrow.Author.Needs.{needs}
 use mir.Syntax.{w64}
 use mir.ValLaws.{toZ-ofZ}
+use Rattle.numbers.specs.Bits.{bitsOf}
 use Rattle.text.proofs.Laws.{retext}
-use Rattle.score_writer.specs.Files.{wordsBytes, bitsOf}
+use Rattle.score_writer.specs.Files.{wordsBytes}
 use Rattle.score_writer.proofs.Putting.{header-is}
 use Rattle.score_writer.proofs.file.header.Statement.{statement}
 use Rattle.score_writer.proofs.file.header.Tie as tie
@@ -12,8 +13,8 @@ use Rattle.score_writer.proofs.file.header.Tie as tie
 or-requires : tie.Need-or-requires
 or-requires c κs = search needs
 
-bits-requires : tie.Need-bits-requires
-bits-requires c κs = search needs
+as-bits-requires : tie.Need-as-bits-requires
+as-bits-requires c κs = search needs
 
 cast-meters : tie.Need-cast-meters
 cast-meters c = search needs
@@ -60,7 +61,7 @@ returns c =
     let bits = put .before .before .before .before .before in
     let beat = bits .before .before in
     let s = beat .before .before in
-    let e = bits .bits .ensures ∙ ap bitsOf (toZ-ofZ w64 (beat .or .result .num) (record { sfits = bits .before .struct-told .given .0 .1 })) in
+    let e = bits .as-bits .ensures ∙ ap bitsOf (toZ-ofZ w64 (beat .or .result .num) (record { sfits = bits .before .struct-told .given .0 .1 })) in
     retext (ap wordsBytes (header-is (s .args .score) (beat .or .result) (beat .or .ensures) e)) (put .words2 .ensures)
 
 pub header-spec : {M : Type 1} → statement M
@@ -68,7 +69,7 @@ header-spec =
     tie.close
     (tie.spec
     or-requires
-    bits-requires
+    as-bits-requires
     cast-meters
     cast-tempos
     cast-t11

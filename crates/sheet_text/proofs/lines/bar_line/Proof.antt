@@ -1,5 +1,4 @@
 -- The line is that of what was worked out, which fits its types and so has at most 64 bytes.
-use mathlib.Core.Path.{_≡_, ap}
 use Prim.Native.Nat.{_^_, _≤_, _<_}
 use native.Mathlib.Omega.{arith}
 use borrow.Author.Needs.{needs}

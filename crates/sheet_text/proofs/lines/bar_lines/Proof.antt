@@ -1,5 +1,5 @@
 -- After k turns the lines of the first k bars are put.
-use mathlib.Core.Path.{_≡_, refl, sym, _∙_}
+use mathlib.Core.Path.{_≡_, refl}
 use Prim.Native.Nat.{_+_, _-_, _*_, _≤_}
 use native.Mathlib.Omega.{arith}
 use borrow.Author.Needs.{needs}
@@ -7,7 +7,6 @@ use lib.ListN.{length}
 use Rattle.meter.specs.Meters.{pointsOf}
 use Rattle.tempo.specs.Tempos.{tempoPoints}
 use Rattle.text.specs.Texts.{Puts}
-use Rattle.text.proofs.Laws.{retext}
 use Rattle.sheet_text.specs.Sheets.{linesOf}
 use Rattle.sheet_text.proofs.Rows.{no-lines, next-line}
 use Rattle.sheet_text.proofs.lines.bar_lines.Statement.{statement}

@@ -1,6 +1,5 @@
 -- The parts before and behind the slash, by what each of them says.
-use mathlib.Core.Path.{_≡_, refl, sym, ap, _∙_}
-use native.Mathlib.Omega.{arith}
+use mathlib.Core.Path.{refl, sym, ap, _∙_}
 use borrow.Author.Needs.{needs}
 use lib.IntN.{ℤ}
 use lib.Seq.{length-take-le}

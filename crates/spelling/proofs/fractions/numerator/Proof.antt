@@ -1,9 +1,6 @@
 -- No byte, a minus and digits, or digits.
-use mathlib.Core.Path.{_≡_, ap, _∙_}
-use native.Mathlib.Omega.{arith}
+use mathlib.Core.Path.{ap, _∙_}
 use borrow.Author.Needs.{needs}
-use Prim.Native.Nat.{ℕ}
-use mathlib.Core.List.{List}
 use mathlib.Core.Bool.{true, false}
 use Rattle.spelling.specs.Words.{someDigits, signedBy}
 use Rattle.spelling.proofs.Marks.{rest-is}

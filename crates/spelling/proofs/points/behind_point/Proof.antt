@@ -1,5 +1,5 @@
 -- By how many bytes there are, and by what the digits said.
-use mathlib.Core.Path.{_≡_, sym, ap, _∙_}
+use mathlib.Core.Path.{sym, ap, _∙_}
 use native.Mathlib.Omega.{arith}
 use borrow.Author.Needs.{needs}
 use Rattle.spelling.specs.declared.TempoWord.the-variants.{Read}

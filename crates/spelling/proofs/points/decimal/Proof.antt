@@ -1,11 +1,10 @@
 -- By what the digits before the point said, and whether there is a point.
-use mathlib.Core.Path.{_≡_, sym, ap, _∙_}
-use mathlib.Core.List.{List}
+use mathlib.Core.Path.{sym, ap, _∙_}
 use Prim.Native.Nat.{ℕ, suc, _+_}
 use native.Mathlib.Numerals.{add-one}
 use native.Mathlib.Omega.{arith}
 use borrow.Author.Needs.{needs}
-use lib.ListN.{length, take, drop}
+use lib.ListN.{drop}
 use lib.Seq.{length-take-le}
 use Rattle.spelling.specs.declared.digits.Digits.{Digits}
 use Rattle.spelling.specs.declared.TempoWord.the-variants.{Read}

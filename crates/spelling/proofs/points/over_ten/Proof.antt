@@ -1,5 +1,5 @@
 -- The operations are those of the definition.
-use mathlib.Core.Path.{_≡_, ap, _∙_}
+use mathlib.Core.Path.{ap, _∙_}
 use borrow.Author.Needs.{needs}
 use lib.Ieee.{Float, binary32, div, ofInt, toBits}
 use lib.IntN.{pos}

@@ -65,7 +65,10 @@ returns c =
     let s = c .before .before .before .before .before .before .before .before .before .before .before .before in
     let l = c .before .before .before .before .before .before .before .loop in
     c .beat-after .ensures
-    ∙ stops (now (s .args .nums)) (now (s .args .dens)) (now (s .args .tempos)) (s .pre .1 .0) (s .pre .1 .1) (stop (s .args .seconds)) (final (s .args .seconds)) (l .i) (l .secs) (l .from) (l .tempo) _ (l .inv) (c .before .before .before .before .before .before .loop-test .taken) _ (toZ-ofZ w64 (getD (now (s .args .nums)) (l .i) (pos 0)) (record { sfits = c .before .before .before .before .before .t16 .given })) _ (c .before .before .before .float-of .ensures) (rw (c .before .before .later .ensures) at (c .before .if1 .taken))
+    ∙ stops (now (s .args .nums)) (now (s .args .dens)) (now (s .args .tempos)) (s .pre .1 .0) (s .pre .1 .1) (stop (s .args .seconds)) (final (s .args .seconds)) (l .i)
+    (l .secs) (l .from) (l .tempo) _ (l .inv) (c .before .before .before .before .before .before .loop-test .taken) _
+    (toZ-ofZ w64 (getD (now (s .args .nums)) (l .i) (pos 0)) (record { sfits = c .before .before .before .before .before .t16 .given })) _
+    (c .before .before .before .float-of .ensures) (rw (c .before .before .later .ensures) at (c .before .if1 .taken))
 
 mul-tempo-of-2 : tie.Need-mul-tempo-of-2 Inv-loop μ-loop
 mul-tempo-of-2 c = search needs
@@ -88,7 +91,10 @@ loop-again c =
     let l = c .before .before .before .before .before .before .before .before .loop in
     let there = c .before .before .before .later .ensures in
     rw there
-    (goes (now (s .args .nums)) (now (s .args .dens)) (now (s .args .tempos)) (s .pre .1 .0) (s .pre .1 .1) (stop (s .args .seconds)) (final (s .args .seconds)) (l .i) (l .secs) (l .from) (l .tempo) _ (l .inv) (c .before .before .before .before .before .before .before .loop-test .taken) _ (toZ-ofZ w64 (getD (now (s .args .nums)) (l .i) (pos 0)) (record { sfits = c .before .before .before .before .before .before .t16 .given })) _ (c .before .before .before .before .float-of .ensures) _ (c .tempo-of2 .ensures) (rw there at (c .before .before .if1 .left)))
+    (goes (now (s .args .nums)) (now (s .args .dens)) (now (s .args .tempos)) (s .pre .1 .0) (s .pre .1 .1) (stop (s .args .seconds)) (final (s .args .seconds)) (l .i)
+    (l .secs) (l .from) (l .tempo) _ (l .inv) (c .before .before .before .before .before .before .before .loop-test .taken) _
+    (toZ-ofZ w64 (getD (now (s .args .nums)) (l .i) (pos 0)) (record { sfits = c .before .before .before .before .before .before .t16 .given })) _
+    (c .before .before .before .before .float-of .ensures) _ (c .tempo-of2 .ensures) (rw there at (c .before .before .if1 .left)))
 
 beat-after-requires-2 : tie.Need-beat-after-requires-2 Inv-loop μ-loop
 beat-after-requires-2 c κs = search needs

@@ -62,7 +62,10 @@ returns c =
     let s = c .before .before .before .before .before .before .before .before .before .before .before in
     let l = c .before .before .before .before .before .before .loop in
     c .later .ensures
-    ∙ stops (now (s .args .nums)) (now (s .args .dens)) (now (s .args .tempos)) (s .pre .1 .0) (s .pre .1 .1) (stop (s .args .beat)) (final (s .args .beat)) (l .i) (l .secs) (l .from) (l .tempo) _ (l .inv) (c .before .before .before .before .before .loop-test .taken) _ (toZ-ofZ w64 (getD (now (s .args .nums)) (l .i) (pos 0)) (record { sfits = c .before .before .before .before .t15 .given })) _ (c .before .before .float-of .ensures) (c .before .if1 .taken)
+    ∙ stops (now (s .args .nums)) (now (s .args .dens)) (now (s .args .tempos)) (s .pre .1 .0) (s .pre .1 .1) (stop (s .args .beat)) (final (s .args .beat)) (l .i) (l .secs)
+    (l .from) (l .tempo) _ (l .inv) (c .before .before .before .before .before .loop-test .taken) _
+    (toZ-ofZ w64 (getD (now (s .args .nums)) (l .i) (pos 0)) (record { sfits = c .before .before .before .before .t15 .given })) _ (c .before .before .float-of .ensures)
+    (c .before .if1 .taken)
 
 later-requires-2 : tie.Need-later-requires-2 Inv-loop μ-loop
 later-requires-2 c κs = search needs
@@ -87,7 +90,10 @@ loop-again c =
     let s = c .before .before .before .before .before .before .before .before .before .before .before .before .before in
     let l = c .before .before .before .before .before .before .before .before .loop in
     rw (c .before .before .later2 .ensures)
-    (goes (now (s .args .nums)) (now (s .args .dens)) (now (s .args .tempos)) (s .pre .1 .0) (s .pre .1 .1) (stop (s .args .beat)) (final (s .args .beat)) (l .i) (l .secs) (l .from) (l .tempo) _ (l .inv) (c .before .before .before .before .before .before .before .loop-test .taken) _ (toZ-ofZ w64 (getD (now (s .args .nums)) (l .i) (pos 0)) (record { sfits = c .before .before .before .before .before .before .t15 .given })) _ (c .before .before .before .before .float-of .ensures) _ (c .tempo-of2 .ensures) (c .before .before .before .if1 .left))
+    (goes (now (s .args .nums)) (now (s .args .dens)) (now (s .args .tempos)) (s .pre .1 .0) (s .pre .1 .1) (stop (s .args .beat)) (final (s .args .beat)) (l .i) (l .secs)
+    (l .from) (l .tempo) _ (l .inv) (c .before .before .before .before .before .before .before .loop-test .taken) _
+    (toZ-ofZ w64 (getD (now (s .args .nums)) (l .i) (pos 0)) (record { sfits = c .before .before .before .before .before .before .t15 .given })) _
+    (c .before .before .before .before .float-of .ensures) _ (c .tempo-of2 .ensures) (c .before .before .before .if1 .left))
 
 later-requires-3 : tie.Need-later-requires-3 Inv-loop μ-loop
 later-requires-3 c κs = search needs

@@ -59,7 +59,9 @@ returns c =
     let s = c .before .before .before .before .before .before .before .before .before .before in
     let l = c .before .before .before .before .before .loop in
     let v = l .inv in
-    stops (now (s .args .nums)) (now (s .args .dens)) (now (s .args .tempos)) (s .pre .1 .0) (s .pre .1 .1) (stop (s .args .beat)) (final (s .args .beat)) (l .i) (v .0) (v .1) (l .tempo) _ (v .2) (c .before .before .before .before .loop-test .taken) _ (toZ-ofZ w64 (getD (now (s .args .nums)) (l .i) (pos 0)) (record { sfits = c .before .before .before .t13 .given })) _ (c .before .float-of .ensures) (c .if1 .taken)
+    stops (now (s .args .nums)) (now (s .args .dens)) (now (s .args .tempos)) (s .pre .1 .0) (s .pre .1 .1) (stop (s .args .beat)) (final (s .args .beat)) (l .i) (v .0)
+    (v .1) (l .tempo) _ (v .2) (c .before .before .before .before .loop-test .taken) _
+    (toZ-ofZ w64 (getD (now (s .args .nums)) (l .i) (pos 0)) (record { sfits = c .before .before .before .t13 .given })) _ (c .before .float-of .ensures) (c .if1 .taken)
 
 mul-tempo-of-2 : tie.Need-mul-tempo-of-2 Inv-loop μ-loop
 mul-tempo-of-2 c = search needs
@@ -84,7 +86,10 @@ loop-again c =
     let at = c .before .before .before .float-of .result in (
       elapsed (v .0) (v .1) at (l .tempo),
       at,
-      goes (now (s .args .nums)) (now (s .args .dens)) (now (s .args .tempos)) (s .pre .1 .0) (s .pre .1 .1) (stop (s .args .beat)) (final (s .args .beat)) (l .i) (v .0) (v .1) (l .tempo) _ (v .2) (c .before .before .before .before .before .before .loop-test .taken) _ (toZ-ofZ w64 (getD (now (s .args .nums)) (l .i) (pos 0)) (record { sfits = c .before .before .before .before .before .t13 .given })) _ (c .before .before .before .float-of .ensures) _ (c .tempo-of2 .ensures) (c .before .before .if1 .left),
+      goes (now (s .args .nums)) (now (s .args .dens)) (now (s .args .tempos)) (s .pre .1 .0) (s .pre .1 .1) (stop (s .args .beat)) (final (s .args .beat)) (l .i) (v .0) (v .1)
+          (l .tempo) _ (v .2) (c .before .before .before .before .before .before .loop-test .taken) _
+          (toZ-ofZ w64 (getD (now (s .args .nums)) (l .i) (pos 0)) (record { sfits = c .before .before .before .before .before .t13 .given })) _
+          (c .before .before .before .float-of .ensures) _ (c .tempo-of2 .ensures) (c .before .before .if1 .left),
     )
 
 returns-2 : tie.Need-returns-2 Inv-loop μ-loop

@@ -1,3 +1,4 @@
+-- By the size: 0 has no sign, and any other size keeps the one that was asked for.
 use mathlib.Core.Path.{sym, _∙_}
 use borrow.Author.Tests.{eqb-true, eqb-false}
 use Rattle.numbers.specs.Exacts.{sizeOf}

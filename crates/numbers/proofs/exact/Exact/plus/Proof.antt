@@ -1,3 +1,4 @@
+-- By the two signs: sizes of one sign add, and of two signs the smaller is taken from the larger.
 use lib.IntN.{_+ℤ_}
 use mathlib.Core.Path.{sym, ap, _∙_}
 use mathlib.Core.Bool.{true, false}

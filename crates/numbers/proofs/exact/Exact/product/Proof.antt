@@ -1,6 +1,6 @@
 -- A number is its sign and its magnitude.
 use mathlib.Core.Path.{_≡_, ap, _∙_}
-use lib.IntN.{ℤ, natAbs, _*ℤ_}
+use lib.IntN.{natAbs, _*ℤ_}
 use mir.Syntax.{w64}
 use mir.Val.{toZ, ofZ}
 use mir.ValLaws.{toZ-ofZ}

@@ -1,3 +1,4 @@
+-- The sizes multiply, and the signs of the two factors, with the flag, decide the sign.
 use mathlib.Core.Path.{_≡_, ap, _∙_}
 use mathlib.Core.Bool.{not, Bool·beq}
 use Prim.Native.Nat.{ℕ, _*_}

@@ -1,4 +1,4 @@
--- `beat::Wide::below` meets its contract. Assumes nothing.
+-- The first words decide, and where they are the same the second.
 use mathlib.Core.Path.{sym}
 use Prim.Native.Nat.{_^_}
 use native.Mathlib.Nat.{le-of-lt}

@@ -1,3 +1,4 @@
+-- A number of two digits is 0 where both are.
 use mathlib.Core.Path.{sym}
 use Prim.Native.Nat.{_^_}
 use lib.Dec.{lit<}

@@ -1,4 +1,4 @@
--- `beat::Wide::less` meets its contract. Assumes nothing.
+-- By digits: where the second word is the smaller, one is borrowed from the first.
 use borrow.Author.Needs.{needs}
 use Prim.Native.Nat.{_+_, _-_, _<_, _≤_, _^_}
 use native.Mathlib.Nat.{le-of-lt, le-of-suc-le-suc, lt-of-le-of-lt, sub-le, sub-pos-iff-lt, le-add-right}

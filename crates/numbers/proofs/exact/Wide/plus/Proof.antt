@@ -1,4 +1,4 @@
--- `beat::Wide::plus` meets its contract. Assumes nothing.
+-- By digits: the second words are added first, and their carry goes to the first.
 use borrow.Author.Needs.{needs}
 use Prim.Native.Nat.{_+_, _-_, _<_, _^_}
 use native.Mathlib.Omega.{arith}

@@ -1,4 +1,4 @@
--- `beat::Wide::product` meets its contract. Assumes nothing.
+-- By columns of 32 bits: none of the partial sums leaves 64 bits.
 use borrow.Author.Needs.{needs}
 use native.Mathlib.Omega.{arith}
 use Prim.Native.Nat.{_*_}

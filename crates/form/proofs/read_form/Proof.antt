@@ -1,0 +1,30 @@
+-- The walk, and then its end.
+use borrow.Author.Needs.{needs}
+use Rattle.form.proofs.Ends.{walk-wrong, walk-done}
+use Rattle.form.proofs.read_form.Statement.{statement}
+use Rattle.form.proofs.read_form.Tie as tie
+
+lines-requires : tie.Need-lines-requires
+lines-requires c κs = search needs
+
+enum-known-line : tie.Need-enum-known-line
+enum-known-line c = search needs
+
+enum-known-draft : tie.Need-enum-known-draft
+enum-known-draft c = search needs
+
+file-requires : tie.Need-file-requires
+file-requires c κs = search needs
+
+returns : tie.Need-returns
+returns c = walk-wrong _ _ _ _ _ _ (c.before.before.before .lines .ensures) (c.before .line .given .1)
+
+returns-2 : tie.Need-returns-2
+returns-2 c =
+    let done = c .before .before .before .before .before .before .before in
+    walk-done _ _ _ _ _ _ (done .before .before .lines .ensures) (done .draft .given .1) (c .file .ensures .0) (c .file .ensures .1)
+
+pub read-form-spec : {M : Type 1} → statement M
+read-form-spec =
+    tie.close
+    (tie.spec lines-requires enum-known-line enum-known-draft file-requires returns returns-2)

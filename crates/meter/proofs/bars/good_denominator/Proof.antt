@@ -1,0 +1,29 @@
+-- Above 0 the remainder decides, as in the definition.
+use mathlib.Core.Path.{_≡_, sym, ap}
+use mathlib.Core.Bool.{Bool, _&&_}
+use Prim.Native.Nat.{ℕ, _%_, _<_}
+use native.Mathlib.Omega.{arith}
+use borrow.Author.Needs.{needs}
+use borrow.Author.Tests.{lt-ltb}
+use lib.Dec.{eqb}
+use Rattle.meter.specs.Fits.{goodDen}
+use Rattle.meter.proofs.bars.good_denominator.Statement.{statement}
+use Rattle.meter.proofs.bars.good_denominator.Tie as tie
+
+divides-good : (den : ℕ) → ((den ≡ 0) → ⊥) → eqb (64 % den) 0 ≡ goodDen den
+divides-good den f = sym (ap (λ (t : Bool). t && eqb (64 % den) 0) (lt-ltb 0 den (above den f)))
+  where
+    above : (k : ℕ) → ((k ≡ 0) → ⊥) → 0 < k
+    above k f = omega arith
+
+returns : tie.Need-returns
+returns c = sym (ap goodDen (c .if1 .taken))
+
+rem-result : tie.Need-rem-result
+rem-result c = search needs
+
+returns-2 : tie.Need-returns-2
+returns-2 c = divides-good _ (c .if1 .left)
+
+pub good-denominator-spec : {M : Type 1} → statement M
+good-denominator-spec = tie.close (tie.spec returns rem-result returns-2)

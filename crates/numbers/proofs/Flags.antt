@@ -1,0 +1,35 @@
+-- Flags: by their two cases, what a conjunction that holds says of each side, and one that holds as a type. Assumes nothing.
+use mathlib.Core.Path.{_≡_, refl, sym, _∙_, subst}
+use mathlib.Core.Bool.{Bool, true, false, _&&_, true≢false}
+use lib.Dec.{T}
+
+pub by-flag {ℓ} : {X : Type ℓ} (b : Bool) → (b ≡ true → X) → (b ≡ false → X) → X
+by-flag true f g = f refl
+by-flag false f g = g refl
+
+pub never : {X : Type 0} → false ≡ true → X
+never e = absurd (true≢false (sym e))
+
+pub not-both : {X : Type 0} (b : Bool) → b ≡ true → b ≡ false → X
+not-both b p q = never (sym q ∙ p)
+
+pub holds : (b : Bool) → b ≡ true → T b
+holds b e = subst T (sym e) tt
+
+pub both : (a b : Bool) → (a && b) ≡ true → (a ≡ true) × (b ≡ true)
+both true b e = (refl, e)
+both false b e = (e, never e)
+
+pub and-left : (a b : Bool) → (a && b) ≡ true → a ≡ true
+and-left a b e = both a b e .0
+
+pub and-right : (a b : Bool) → (a && b) ≡ true → b ≡ true
+and-right a b e = both a b e .1
+
+pub and-true : (b : Bool) → (b && true) ≡ b
+and-true true = refl
+and-true false = refl
+
+pub and-false : (b : Bool) → (b && false) ≡ false
+and-false true = refl
+and-false false = refl

@@ -1,0 +1,401 @@
+-- The order of the floats that are not below zero, an infinity included, which the rounded operations keep: each works out a fraction of two numbers, and
+-- of two fractions the larger rounds to the larger. `Up x y` says that neither is negative or a NaN and that x is at most y.
+use mathlib.Core.Path.{_≡_, refl, sym, ap, _∙_, subst}
+use mathlib.Core.Bool.{Bool, true, false, not, _&&_, _||_, cond, true≢false}
+use Prim.Native.Nat.{ℕ, zero, suc, _+_, _-_, _*_, _^_, _≤_, _<_}
+use native.Mathlib.Nat.{le-refl, le-trans, le-of-eq, lt-of-lt-of-le, lt-of-le-of-lt, lt-irrefl, not-le-of-lt, mul-comm, mul-assoc, mul-left-comm, mul-right-comm, mul-le-mul-right, mul-pos, mul-sub, mul-mul-mul-comm, add-mul, mul-one, mul-lt-mul-of-pos-right, lt-of-mul-lt-mul-right}
+use native.Mathlib.Omega.{arith}
+use lib.IntN.{ℤ, pos, negsuc}
+use borrow.Author.Tests.{ne-eqb}
+use lib.Dec.{T, ltb, eqb, ltb→lt, lt→ltb, nltb→le}
+use lib.Pow.{pow-add, pow-pos, pow-lt}
+use lib.Ieee.{Float, nan, inf, fin, Format, prec, emax, low, up, down, fits, le, lt, odd, units, round, add, sub, mul, div, sum}
+use lib.Ieee.Fits.{up-pos, down-pos, round-is}
+use lib.Ieee.Exact.{HasValue, odd-sign, round-exact}
+use lib.Ieee.Order.{round-mono}
+use lib.Ieee.Positive.{positive, through}
+use lib.Ieee.Scale.{finite}
+use Rattle.rounding.proofs.Flooring.{few, coarse, under-top}
+use Rattle.rounding.proofs.Order.{same, of-le, of-eq}
+
+abbrev pub Up : Float → Float → Type 0
+Up nan y = ⊥
+Up (inf true) y = ⊥
+Up (inf false) nan = ⊥
+Up (inf false) (inf true) = ⊥
+Up (inf false) (inf false) = Unit
+Up (inf false) (fin t n d) = ⊥
+Up (fin true m e) y = ⊥
+Up (fin false m e) nan = ⊥
+Up (fin false m e) (inf true) = ⊥
+Up (fin false m e) (inf false) = Unit
+Up (fin false m e) (fin true n d) = ⊥
+Up (fin false m e) (fin false n d) = m * up e * down d ≤ n * up d * down e
+
+-- ---- an order
+
+pub up-right : (x y : Float) → Up x y → Up y y
+up-right nan y h = absurd h
+up-right (inf true) y h = absurd h
+up-right (inf false) nan h = absurd h
+up-right (inf false) (inf true) h = absurd h
+up-right (inf false) (inf false) h = tt
+up-right (inf false) (fin t n d) h = absurd h
+up-right (fin true m e) y h = absurd h
+up-right (fin false m e) nan h = absurd h
+up-right (fin false m e) (inf true) h = absurd h
+up-right (fin false m e) (inf false) h = tt
+up-right (fin false m e) (fin true n d) h = absurd h
+up-right (fin false m e) (fin false n d) h = le-refl (n * up d * down d)
+
+pub up-trans : (x y z : Float) → Up x y → Up y z → Up x z
+up-trans nan y z h k = absurd h
+up-trans (inf true) y z h k = absurd h
+up-trans (inf false) nan z h k = absurd h
+up-trans (inf false) (inf true) z h k = absurd h
+up-trans (inf false) (inf false) z h k = k
+up-trans (inf false) (fin t n d) z h k = absurd h
+up-trans (fin true m e) y z h k = absurd h
+up-trans (fin false m e) nan z h k = absurd h
+up-trans (fin false m e) (inf true) z h k = absurd h
+up-trans (fin false m e) (inf false) nan h k = absurd k
+up-trans (fin false m e) (inf false) (inf true) h k = absurd k
+up-trans (fin false m e) (inf false) (inf false) h k = tt
+up-trans (fin false m e) (inf false) (fin t n d) h k = absurd k
+up-trans (fin false m e) (fin true n d) z h k = absurd h
+up-trans (fin false m e) (fin false n d) nan h k = absurd k
+up-trans (fin false m e) (fin false n d) (inf true) h k = absurd k
+up-trans (fin false m e) (fin false n d) (inf false) h k = tt
+up-trans (fin false m e) (fin false n d) (fin true o g) h k = absurd k
+up-trans (fin false m e) (fin false n d) (fin false o g) h k = through (m * up e) (n * up d) (o * up g) (down e) (down d) (down g) (down-pos d) h k
+
+-- ---- against the test `<=`
+
+pub le→up : (x y : Float) → Up x x → Up y y → T (le x y) → Up x y
+unfolding le lt
+le→up nan y p q h = absurd p
+le→up (inf true) y p q h = absurd p
+le→up (inf false) nan p q h = absurd q
+le→up (inf false) (inf true) p q h = absurd q
+le→up (inf false) (inf false) p q h = tt
+le→up (inf false) (fin t n d) p q h = absurd h
+le→up (fin true m e) y p q h = absurd p
+le→up (fin false m e) nan p q h = absurd q
+le→up (fin false m e) (inf true) p q h = absurd q
+le→up (fin false m e) (inf false) p q h = tt
+le→up (fin false m e) (fin true n d) p q h = absurd q
+le→up (fin false m e) (fin false n d) p q h = same (m * up e * down d) (n * up d * down e) h
+
+-- where the test fails, the order is the other way
+not-le : (a b : ℕ) → (ltb a b || (eqb a b && true)) ≡ false → b ≤ a
+not-le a b = go (ltb a b) (lt→ltb a b)
+  where
+    go : (x : Bool) → (a < b → T x) → (x || (eqb a b && true)) ≡ false → b ≤ a
+    go true p e = absurd (true≢false e)
+    go false p e = by-two p
+      where
+        by-two : (a < b → ⊥) → b ≤ a
+        by-two n = omega arith
+
+pub nle→up : (x y : Float) → Up x x → Up y y → le x y ≡ false → Up y x
+unfolding le lt
+nle→up nan y p q h = absurd p
+nle→up (inf true) y p q h = absurd p
+nle→up (inf false) nan p q h = absurd q
+nle→up (inf false) (inf true) p q h = absurd q
+nle→up (inf false) (inf false) p q h = tt
+nle→up (inf false) (fin true n d) p q h = absurd q
+nle→up (inf false) (fin false n d) p q h = tt
+nle→up (fin true m e) y p q h = absurd p
+nle→up (fin false m e) nan p q h = absurd q
+nle→up (fin false m e) (inf true) p q h = absurd q
+nle→up (fin false m e) (inf false) p q h = absurd (true≢false h)
+nle→up (fin false m e) (fin true n d) p q h = absurd q
+nle→up (fin false m e) (fin false n d) p q h = not-le (m * up e * down d) (n * up d * down e) h
+
+pub up→le : (x y : Float) → Up x y → T (le x y)
+unfolding le lt
+up→le nan y h = absurd h
+up→le (inf true) y h = absurd h
+up→le (inf false) nan h = absurd h
+up→le (inf false) (inf true) h = absurd h
+up→le (inf false) (inf false) h = tt
+up→le (inf false) (fin t n d) h = absurd h
+up→le (fin true m e) y h = absurd h
+up→le (fin false m e) nan h = absurd h
+up→le (fin false m e) (inf true) h = absurd h
+up→le (fin false m e) (inf false) h = tt
+up→le (fin false m e) (fin true n d) h = absurd h
+up→le (fin false m e) (fin false n d) h = of-le (m * up e * down d) (n * up d * down e) (ltb (m * up e * down d) (n * up d * down e)) (eqb (m * up e * down d) (n * up d * down e)) (lt→ltb _ _) (of-eq _ _) h
+
+-- ---- rounding keeps it
+
+of-value : (x : Float) (a c : ℕ) → HasValue x false a c → Up x x
+of-value nan a c h = absurd h
+of-value (inf t) a c h = absurd h
+of-value (fin true m e) a c h = absurd (true≢false (h .0))
+of-value (fin false m e) a c h = le-refl (m * up e * down e)
+
+units-up : (f : Format) (q k : ℕ) → Up (units f false q k) (units f false q k)
+unfolding units
+units-up f q k = go (ltb (q * 2 ^ k) (2 ^ (low f + suc (emax f))))
+  where
+    go : (b : Bool) → (let x = cond b (odd (suc (prec f)) false q k (low f)) (inf false) in Up x x)
+    go true = of-value (odd (suc (prec f)) false q k (low f)) (q * 2 ^ k) (2 ^ low f) (odd-sign (suc (prec f)) false q k (low f))
+    go false = tt
+
+pub round-own : (f : Format) (a b : ℕ) → Up (round f false a b) (round f false a b)
+round-own f a b = subst (λ (x : Float). Up x x) (sym (round-is f false a b)) (units-up f _ _)
+
+pub round-up : (f : Format) (a b c d : ℕ) → 0 < b → 0 < d → a * d ≤ c * b → Up (round f false a b) (round f false c d)
+round-up f a b c d B D h = le→up (round f false a b) (round f false c d) (round-own f a b) (round-own f c d) (round-mono f a b c d B D h)
+
+-- ---- the operations
+
+below-inf : (x : Float) → Up x x → Up x (inf false)
+below-inf nan h = absurd h
+below-inf (inf true) h = absurd h
+below-inf (inf false) h = tt
+below-inf (fin true m e) h = absurd h
+below-inf (fin false m e) h = tt
+
+round-inf : (f : Format) (a b : ℕ) → Up (round f false a b) (inf false)
+round-inf f a b = below-inf (round f false a b) (round-own f a b)
+
+scaled : (a b c d n e : ℕ) → a * d ≤ c * b → a * n * (d * e) ≤ c * n * (b * e)
+scaled a b c d n e h = le-trans (le-of-eq (mul-mul-mul-comm a n d e)) (le-trans (mul-le-mul-right (n * e) h) (le-of-eq (mul-mul-mul-comm c b n e)))
+
+pub not-zero : (n : ℕ) → T (ltb 0 n) → eqb n 0 ≡ false
+not-zero n t = ne-eqb n 0 (λ e. lt-irrefl 0 (subst (λ (z : ℕ). 0 < z) e (ltb→lt 0 n t)))
+
+-- a product with a factor that is finite and above zero
+pub mul-up : (f : Format) (x y c : Float) → T (positive c) → Up x y → Up (mul f x c) (mul f y c)
+unfolding mul
+mul-up f nan y c p h = absurd h
+mul-up f (inf true) y c p h = absurd h
+mul-up f (inf false) nan c p h = absurd h
+mul-up f (inf false) (inf true) c p h = absurd h
+mul-up f (inf false) (fin t n d) c p h = absurd h
+mul-up f (fin true m e) y c p h = absurd h
+mul-up f (fin false m e) nan c p h = absurd h
+mul-up f (fin false m e) (inf true) c p h = absurd h
+mul-up f (fin false m e) (fin true n d) c p h = absurd h
+mul-up f (inf false) (inf false) nan p h = absurd p
+mul-up f (inf false) (inf false) (inf t) p h = absurd p
+mul-up f (inf false) (inf false) (fin true o g) p h = absurd p
+mul-up f (inf false) (inf false) (fin false o g) p h = rw (not-zero o p) tt
+mul-up f (fin false m e) (inf false) nan p h = absurd p
+mul-up f (fin false m e) (inf false) (inf t) p h = absurd p
+mul-up f (fin false m e) (inf false) (fin true o g) p h = absurd p
+mul-up f (fin false m e) (inf false) (fin false o g) p h = rw (not-zero o p) (round-inf f (m * up e * (o * up g)) (down e * down g))
+mul-up f (fin false m e) (fin false n d) nan p h = absurd p
+mul-up f (fin false m e) (fin false n d) (inf t) p h = absurd p
+mul-up f (fin false m e) (fin false n d) (fin true o g) p h = absurd p
+mul-up f (fin false m e) (fin false n d) (fin false o g) p h =
+    round-up f (m * up e * (o * up g)) (down e * down g) (n * up d * (o * up g)) (down d * down g) (mul-pos (down-pos e) (down-pos g)) (mul-pos (down-pos d) (down-pos g))
+    (scaled (m * up e) (down e) (n * up d) (down d) (o * up g) (down g) h)
+
+-- a quotient by a divisor that is finite and above zero
+pub div-up : (f : Format) (x y c : Float) → T (positive c) → Up x y → Up (div f x c) (div f y c)
+unfolding div
+div-up f nan y c p h = absurd h
+div-up f (inf true) y c p h = absurd h
+div-up f (inf false) nan c p h = absurd h
+div-up f (inf false) (inf true) c p h = absurd h
+div-up f (inf false) (fin t n d) c p h = absurd h
+div-up f (fin true m e) y c p h = absurd h
+div-up f (fin false m e) nan c p h = absurd h
+div-up f (fin false m e) (inf true) c p h = absurd h
+div-up f (fin false m e) (fin true n d) c p h = absurd h
+div-up f (inf false) (inf false) nan p h = absurd p
+div-up f (inf false) (inf false) (inf t) p h = absurd p
+div-up f (inf false) (inf false) (fin true o g) p h = absurd p
+div-up f (inf false) (inf false) (fin false o g) p h = tt
+div-up f (fin false m e) (inf false) nan p h = absurd p
+div-up f (fin false m e) (inf false) (inf t) p h = absurd p
+div-up f (fin false m e) (inf false) (fin true o g) p h = absurd p
+div-up f (fin false m e) (inf false) (fin false o g) p h = rw (not-zero o p) (round-inf f (m * up e * down g) (o * up g * down e))
+div-up f (fin false m e) (fin false n d) nan p h = absurd p
+div-up f (fin false m e) (fin false n d) (inf t) p h = absurd p
+div-up f (fin false m e) (fin false n d) (fin true o g) p h = absurd p
+div-up f (fin false m e) (fin false n d) (fin false o g) p h =
+    rw (not-zero o p)
+    (round-up f (m * up e * down g) (o * up g * down e) (n * up d * down g) (o * up g * down d) (mul-pos (mul-pos (ltb→lt 0 o p) (up-pos g)) (down-pos e)) (mul-pos (mul-pos (ltb→lt 0 o p) (up-pos g)) (down-pos d))
+    (le-trans (le-of-eq (ap (λ (z : ℕ). m * up e * down g * z) (mul-comm (o * up g) (down d))))
+    (le-trans (scaled (m * up e) (down e) (n * up d) (down d) (down g) (o * up g) h) (le-of-eq (ap (λ (z : ℕ). n * up d * down g * z) (mul-comm (down e) (o * up g)))))))
+
+-- a sum
+pub add-up : (f : Format) (x x' y y' : Float) → Up x x' → Up y y' → Up (add f x y) (add f x' y')
+unfolding add sum
+add-up f nan x' y y' h k = absurd h
+add-up f (inf true) x' y y' h k = absurd h
+add-up f (inf false) nan y y' h k = absurd h
+add-up f (inf false) (inf true) y y' h k = absurd h
+add-up f (inf false) (fin t n d) y y' h k = absurd h
+add-up f (fin true m e) x' y y' h k = absurd h
+add-up f (fin false m e) nan y y' h k = absurd h
+add-up f (fin false m e) (inf true) y y' h k = absurd h
+add-up f (fin false m e) (fin true n d) y y' h k = absurd h
+add-up f (inf false) (inf false) nan y' h k = absurd k
+add-up f (inf false) (inf false) (inf true) y' h k = absurd k
+add-up f (inf false) (inf false) (inf false) nan h k = absurd k
+add-up f (inf false) (inf false) (inf false) (inf true) h k = absurd k
+add-up f (inf false) (inf false) (inf false) (inf false) h k = tt
+add-up f (inf false) (inf false) (inf false) (fin t o g) h k = absurd k
+add-up f (inf false) (inf false) (fin true a b) y' h k = absurd k
+add-up f (inf false) (inf false) (fin false a b) nan h k = absurd k
+add-up f (inf false) (inf false) (fin false a b) (inf true) h k = absurd k
+add-up f (inf false) (inf false) (fin false a b) (inf false) h k = tt
+add-up f (inf false) (inf false) (fin false a b) (fin t o g) h k = tt
+add-up f (fin false m e) (inf false) nan y' h k = absurd k
+add-up f (fin false m e) (inf false) (inf true) y' h k = absurd k
+add-up f (fin false m e) (inf false) (inf false) nan h k = absurd k
+add-up f (fin false m e) (inf false) (inf false) (inf true) h k = absurd k
+add-up f (fin false m e) (inf false) (inf false) (inf false) h k = tt
+add-up f (fin false m e) (inf false) (inf false) (fin t o g) h k = absurd k
+add-up f (fin false m e) (inf false) (fin true a b) y' h k = absurd k
+add-up f (fin false m e) (inf false) (fin false a b) nan h k = absurd k
+add-up f (fin false m e) (inf false) (fin false a b) (inf true) h k = absurd k
+add-up f (fin false m e) (inf false) (fin false a b) (inf false) h k = round-inf f _ _
+add-up f (fin false m e) (inf false) (fin false a b) (fin t o g) h k = round-inf f _ _
+add-up f (fin false m e) (fin false n d) nan y' h k = absurd k
+add-up f (fin false m e) (fin false n d) (inf true) y' h k = absurd k
+add-up f (fin false m e) (fin false n d) (inf false) nan h k = absurd k
+add-up f (fin false m e) (fin false n d) (inf false) (inf true) h k = absurd k
+add-up f (fin false m e) (fin false n d) (inf false) (inf false) h k = tt
+add-up f (fin false m e) (fin false n d) (inf false) (fin t o g) h k = absurd k
+add-up f (fin false m e) (fin false n d) (fin true a b) y' h k = absurd k
+add-up f (fin false m e) (fin false n d) (fin false a b) nan h k = absurd k
+add-up f (fin false m e) (fin false n d) (fin false a b) (inf true) h k = absurd k
+add-up f (fin false m e) (fin false n d) (fin false a b) (inf false) h k = round-inf f _ _
+add-up f (fin false m e) (fin false n d) (fin false a b) (fin true o g) h k = absurd k
+add-up f (fin false m e) (fin false n d) (fin false a b) (fin false o g) h k =
+    round-up f (m * up e * down b + a * up b * down e) (down e * down b) (n * up d * down g + o * up g * down d) (down d * down g) (mul-pos (down-pos e) (down-pos b)) (mul-pos (down-pos d) (down-pos g))
+    (sums (m * up e) (down e) (n * up d) (down d) (a * up b) (down b) (o * up g) (down g) h k)
+  where
+    -- x / p + y / q ≤ x' / p' + y' / q'
+    sums : (x p x' p' y q y' q' : ℕ) → x * p' ≤ x' * p → y * q' ≤ y' * q → (x * q + y * p) * (p' * q') ≤ (x' * q' + y' * p') * (p * q)
+    sums x p x' p' y q y' q' h k =
+        let a : x * q * (p' * q') ≤ x' * q' * (p * q) = le-trans (le-of-eq (mul-mul-mul-comm x q p' q')) (le-trans (mul-le-mul-right (q * q') h) (le-of-eq (ap (λ (z : ℕ). x' * p * z) (mul-comm q q') ∙ mul-mul-mul-comm x' p q' q))) in
+        let b : y * p * (p' * q') ≤ y' * p' * (p * q) = le-trans (le-of-eq (ap (λ (z : ℕ). y * p * z) (mul-comm p' q') ∙ mul-mul-mul-comm y p q' p')) (le-trans (mul-le-mul-right (p * p') k) (le-of-eq (ap (λ (z : ℕ). y' * q * z) (mul-comm p p') ∙ mul-mul-mul-comm y' q p' p ∙ ap (λ (z : ℕ). y' * p' * z) (mul-comm q p)))) in
+        le-trans (le-of-eq (add-mul (x * q) (y * p) (p' * q'))) (le-trans (both a b) (le-of-eq (sym (add-mul (x' * q') (y' * p') (p * q)))))
+      where
+        both : {a b c d : ℕ} → a ≤ b → c ≤ d → a + c ≤ b + d
+        both h k = omega arith
+
+-- ---- a value that the format holds is at most itself with something added
+
+module _ (f : Format) (m : ℕ) (e : ℤ) (F : T (fits f (fin false (suc m) e))) where
+  -- its exponent, in units of the smallest value
+  own : (j : ℕ) → suc m * up e * 2 ^ low f ≡ suc m * 2 ^ j * down e → HasValue (round f false (suc m * up e) (down e)) false (suc m * up e) (down e)
+  own j h =
+      round-exact f false (suc m * up e) (down e) (suc m) j (down-pos e) (few f false m e F)
+      (lt-of-mul-lt-mul-right (down e)
+      (lt-of-le-of-lt (le-of-eq (sym h))
+      (lt-of-lt-of-le (mul-lt-mul-of-pos-right (under-top f false m e F) (pow-pos (low f))) (le-of-eq (mul-right-comm (2 ^ suc (emax f)) (down e) (2 ^ low f) ∙ ap (λ (z : ℕ). z * down e) (mul-comm (2 ^ suc (emax f)) (2 ^ low f) ∙ sym (pow-add 2 (low f) (suc (emax f))))))))
+      )
+      h
+
+pow-back : (a b : ℕ) → 2 ^ a ≤ 2 ^ b → a ≤ b
+pow-back a b h = go (ltb b a) (ltb→lt b a) (nltb→le b a)
+  where
+    go : (x : Bool) → (T x → b < a) → (T (not x) → a ≤ b) → a ≤ b
+    go true p q = absurd (not-le-of-lt (pow-lt (p tt)) h)
+    go false p q = q tt
+
+own-exact : (f : Format) (m : ℕ) (e : ℤ) → T (fits f (fin false (suc m) e)) → HasValue (round f false (suc m * up e) (down e)) false (suc m * up e) (down e)
+own-exact f m (pos k) F = own f m (pos k) F (k + low f) (mul-assoc (suc m) (2 ^ k) (2 ^ low f) ∙ ap (λ (z : ℕ). suc m * z) (sym (pow-add 2 k (low f))) ∙ sym (mul-one (suc m * 2 ^ (k + low f))))
+own-exact f m (negsuc k) F =
+    own f m (negsuc k) F (low f - suc k)
+    (ap (λ (z : ℕ). z * 2 ^ low f) (mul-one (suc m))
+    ∙ ap (λ (z : ℕ). suc m * 2 ^ z) (sym (gap (suc k) (low f) (pow-back (suc k) (low f) (coarse f false m (negsuc k) F))))
+    ∙ ap (λ (z : ℕ). suc m * z) (pow-add 2 (low f - suc k) (suc k))
+    ∙ sym (mul-assoc (suc m) (2 ^ (low f - suc k)) (2 ^ suc k)))
+  where
+    gap : (a b : ℕ) → a ≤ b → b - a + a ≡ b
+    gap a b h = omega arith
+
+up-value : (m : ℕ) (e : ℤ) (y : Float) → HasValue y false (m * up e) (down e) → Up (fin false m e) y
+up-value m e nan h = absurd h
+up-value m e (inf t) h = absurd h
+up-value m e (fin true n d) h = absurd (true≢false (h .0))
+up-value m e (fin false n d) h = le-of-eq (sym (h .1))
+
+pub from-zero : (e : ℤ) (y : Float) → Up y y → Up (fin false zero e) y
+from-zero e nan h = absurd h
+from-zero e (inf true) h = absurd h
+from-zero e (inf false) h = tt
+from-zero e (fin true n d) h = absurd h
+from-zero e (fin false n d) h = go (up e) (down d) (n * up d * down e)
+  where
+    go : (a b c : ℕ) → 0 * a * b ≤ c
+    go a b c = omega arith
+
+round-self : (f : Format) (m : ℕ) (e : ℤ) → T (fits f (fin false m e)) → Up (fin false m e) (round f false (m * up e) (down e))
+round-self f zero e F = from-zero e (round f false (zero * up e) (down e)) (round-own f (zero * up e) (down e))
+round-self f (suc m) e F = up-value (suc m) e (round f false (suc m * up e) (down e)) (own-exact f m e F)
+
+pub add-more : (f : Format) (x y : Float) → T (fits f x) → Up x x → Up y y → Up x (add f x y)
+unfolding add sum
+add-more f nan y F h k = absurd h
+add-more f (inf true) y F h k = absurd h
+add-more f (inf false) nan F h k = absurd k
+add-more f (inf false) (inf true) F h k = absurd k
+add-more f (inf false) (inf false) F h k = tt
+add-more f (inf false) (fin t n d) F h k = tt
+add-more f (fin true m e) y F h k = absurd h
+add-more f (fin false m e) nan F h k = absurd k
+add-more f (fin false m e) (inf true) F h k = absurd k
+add-more f (fin false m e) (inf false) F h k = tt
+add-more f (fin false m e) (fin true n d) F h k = absurd k
+add-more f (fin false m e) (fin false n d) F h k =
+    up-trans (fin false m e) (round f false (m * up e) (down e)) (round f false (m * up e * down d + n * up d * down e) (down e * down d)) (round-self f m e F)
+    (round-up f (m * up e) (down e) (m * up e * down d + n * up d * down e) (down e * down d) (down-pos e) (mul-pos (down-pos e) (down-pos d))
+    (le-trans (le-of-eq (ap (λ (z : ℕ). m * up e * z) (mul-comm (down e) (down d)) ∙ sym (mul-assoc (m * up e) (down d) (down e)))) (mul-le-mul-right (down e) (more (m * up e * down d) (n * up d * down e)))))
+  where
+    more : (a b : ℕ) → a ≤ a + b
+    more a b = omega arith
+
+-- ---- a difference that is not below zero grows with what it is taken from
+
+pick : (f : Format) (a b c : ℕ) → b ≤ a → sum f false a true b c ≡ round f false (a - b) c
+unfolding sum
+pick f a b c h = go (ltb a b) (ltb→lt a b)
+  where
+    go : (t : Bool) → (T t → a < b) → cond t (round f true (b - a) c) (round f false (a - b) c) ≡ round f false (a - b) c
+    go true k = absurd (not-le-of-lt (k tt) h)
+    go false k = refl
+
+sub-is : (f : Format) (m : ℕ) (e : ℤ) (n : ℕ) (d : ℤ) → Up (fin false n d) (fin false m e) → sub f (fin false m e) (fin false n d) ≡ round f false (m * up e * down d - n * up d * down e) (down e * down d)
+unfolding sub
+sub-is f m e n d h = pick f (m * up e * down d) (n * up d * down e) (down e * down d) h
+
+-- X / dx - Y / dy ≤ Z / dz - Y / dy for X / dx ≤ Z / dz
+grow : (X dx Y dy Z dz : ℕ) → X * dz ≤ Z * dx → (X * dy - Y * dx) * (dz * dy) ≤ (Z * dy - Y * dz) * (dx * dy)
+grow X dx Y dy Z dz h =
+    let a : dz * dy * (X * dy) ≤ dx * dy * (Z * dy) = simp (mul-assoc, mul-comm, mul-left-comm) (simp (mul-assoc, mul-comm, mul-left-comm) at (mul-le-mul-right (dy * dy) h)) in
+    let b : dx * dy * (Y * dz) ≡ dz * dy * (Y * dx) = simp (mul-assoc, mul-comm, mul-left-comm) in
+    le-trans (le-of-eq (mul-comm (X * dy - Y * dx) (dz * dy) ∙ mul-sub (dz * dy) (X * dy) (Y * dx)))
+    (le-trans (less (dz * dy * (X * dy)) (dz * dy * (Y * dx)) (dx * dy * (Z * dy)) (dx * dy * (Y * dz)) a b)
+    (le-of-eq (sym (mul-comm (Z * dy - Y * dz) (dx * dy) ∙ mul-sub (dx * dy) (Z * dy) (Y * dz)))))
+  where
+    less : (p q r s : ℕ) → p ≤ r → s ≡ q → p - q ≤ r - s
+    less p q r s e h = omega arith
+
+pub sub-up : (f : Format) (x y z : Float) → T (finite z) → Up y x → Up x z → Up (sub f x y) (sub f z y)
+sub-up f x y nan F h k = absurd F
+sub-up f x y (inf t) F h k = absurd F
+sub-up f nan y (fin t n d) F h k = absurd k
+sub-up f (inf true) y (fin t n d) F h k = absurd k
+sub-up f (inf false) y (fin t n d) F h k = absurd k
+sub-up f (fin true m e) y (fin t n d) F h k = absurd k
+sub-up f (fin false m e) y (fin true n d) F h k = absurd k
+sub-up f (fin false m e) nan (fin false n d) F h k = absurd h
+sub-up f (fin false m e) (inf true) (fin false n d) F h k = absurd h
+sub-up f (fin false m e) (inf false) (fin false n d) F h k = absurd h
+sub-up f (fin false m e) (fin true o g) (fin false n d) F h k = absurd h
+sub-up f (fin false m e) (fin false o g) (fin false n d) F h k =
+    subst (λ (z : Float). Up z (sub f (fin false n d) (fin false o g))) (sym (sub-is f m e o g h))
+    (subst (λ (z : Float). Up (round f false (m * up e * down g - o * up g * down e) (down e * down g)) z) (sym (sub-is f n d o g (up-trans (fin false o g) (fin false m e) (fin false n d) h k)))
+    (round-up f (m * up e * down g - o * up g * down e) (down e * down g) (n * up d * down g - o * up g * down d) (down d * down g) (mul-pos (down-pos e) (down-pos g)) (mul-pos (down-pos d) (down-pos g))
+    (grow (m * up e) (down e) (o * up g) (down g) (n * up d) (down d) k)))
