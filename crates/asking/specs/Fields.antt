@@ -5,14 +5,6 @@ use lib.ListN.{getD}
 use Rattle.numbers.specs.Bits.{signedOf}
 use Rattle.beats.specs.declared.Beat.{Beat}
 
--- the word of four bytes, little-endian
-abbrev pub joined : ℕ → ℕ → ℕ → ℕ → ℕ
-joined a b c d = a + 256 * b + 65536 * c + 16777216 * d
-
--- the word of the four bytes from an index on
-abbrev pub wordAt : List ℕ → ℕ → ℕ
-wordAt bytes at = joined (getD bytes at 0) (getD bytes (at + 1) 0) (getD bytes (at + 2) 0) (getD bytes (at + 3) 0)
-
 -- the 64 bits of two words, the lower one first
 abbrev pub u64At : List ℕ → ℕ → ℕ
 u64At q i = getD q i 0 + 4294967296 * getD q (i + 1) 0

@@ -1,7 +1,7 @@
 // The next question of the input.
 ghost use mathlib.Core.Path.{_≡_};
-ghost use Prim.Native.Nat.{_≤_};
-ghost use Rattle.asking.specs.Fields.{joined, wordAt};
+ghost use Prim.Native.Nat.{_+_, _*_, _≤_};
+ghost use lib.ListN.{getD};
 use crate::CHUNK;
 use crate::HELD;
 use crate::MOST;
@@ -15,14 +15,14 @@ fn wide(b: u8) -> u32
 
 // The word of four bytes, the lowest first.
 fn join(a: u8, b: u8, c: u8, d: u8) -> u32
-    ensures { λ r. ⌜ r ≡ joined a b c d ⌝ }
+    ensures { λ r. ⌜ r ≡ a + 256 * b + 65536 * c + 16777216 * d ⌝ }
 {
     wide(a) + wide(b) * 0x100 + wide(c) * 0x1_0000 + wide(d) * 0x100_0000
 }
 
 // The word of four bytes from an index on, or 0 past the end.
 fn word_at(b: &[u8; CHUNK], at: usize) -> u32
-    ensures { λ r. ⌜ (at ≤ 65532 → r ≡ wordAt (now (b .entry)) at) ⌝ }
+    ensures { λ r. ⌜ (at ≤ 65532 → r ≡ getD (now (b .entry)) at 0 + 256 * getD (now (b .entry)) (at + 1) 0 + 65536 * getD (now (b .entry)) (at + 2) 0 + 16777216 * getD (now (b .entry)) (at + 3) 0) ⌝ }
 {
     if at <= 65532 {
         join(b[at], b[at + 1], b[at + 2], b[at + 3])
