@@ -13,15 +13,15 @@ use Rattle.numbers.specs.Exacts.{valueOf, exactOf}
 use Rattle.numbers.proofs.Laws.{unstopped, valued, and-false}
 use Rattle.beats.specs.declared.Beat.{Beat}
 use Rattle.beats.specs.Beats.{newBeat}
-use Rattle.beats.specs.Sums.{fits, fitted}
+use Rattle.beats.specs.Sums.{storable, fitted}
 
 module _ (num : ℤ) (den : ℕ) where
   -- refused exactly where the two numbers do not fit as they stand
-  pub unfit : fits num den ≡ false → refused 2 [] ≡ fitted num den
+  pub unfit : storable num den ≡ false → refused 2 [] ≡ fitted num den
   unfolding fitted
   unfit e = sym (ap (λ (t : Bool). cond t (accepted (newBeat num den)) (refused 2 [])) e)
 
-  pub fit : fits num den ≡ true → accepted (newBeat num den) ≡ fitted num den
+  pub fit : storable num den ≡ true → accepted (newBeat num den) ≡ fitted num den
   unfolding fitted
   fit e = sym (ap (λ (t : Bool). cond t (accepted (newBeat num den)) (refused 2 [])) e)
 

@@ -15,7 +15,7 @@ use Rattle.numbers.proofs.Laws.{by-flag, not-both, factor-zero, up, down, natur
 use Rattle.beats.specs.declared.Beat.{Beat}
 use Rattle.beats.specs.Beats.{newBeat, isBeat, wholeBeat}
 use Rattle.beats.specs.Sums.{fitted, addBeats, mulBeat, sumOf, orderOfBeats, belowBeat}
-use Rattle.beats.specs.Values.{HasValue}
+use Rattle.beats.specs.Values.{Worth}
 use Rattle.beats.proofs.Lowest.{den-divides}
 use Rattle.beats.proofs.Refusing.{beat-above, beat-lowest}
 use Rattle.beats.proofs.Fitted.{fit}
@@ -24,7 +24,7 @@ use Rattle.beats.proofs.Ordering.{below-is, order-same, order-exchanged
 
 -- ---- a beat that is n / d
 
-module _ (beat : Beat) (n d : ℕ) (above : 0 < d) (v : HasValue beat (pos n) d) where
+module _ (beat : Beat) (n d : ℕ) (above : 0 < d) (v : Worth beat (pos n) d) where
   pub value-forward : down (beat .num) ≡ 0
   value-forward = factor-zero (down (beat .num)) d above (sym (down-times (beat .num) d) ∙ ap down v)
 
@@ -50,7 +50,7 @@ module _ (a b : Beat) where
   unfolding sumOf
   sum-is c e = accepted-is (a .num *ℤ pos (b .den) +ℤ b .num *ℤ pos (a .den)) (a .den * b .den) c e
 
-  pub sum-has : (x y : ℤ) (d : ℕ) → 0 < a .den → 0 < b .den → HasValue a x d → HasValue b y d → HasValue (sumOf a b) (x +ℤ y) d
+  pub sum-has : (x y : ℤ) (d : ℕ) → 0 < a .den → 0 < b .den → Worth a x d → Worth b y d → Worth (sumOf a b) (x +ℤ y) d
   unfolding sumOf
   sum-has x y d p q v w =
       let num = a .num *ℤ pos (b .den) +ℤ b .num *ℤ pos (a .den) in
@@ -58,7 +58,7 @@ module _ (a b : Beat) where
 
 -- ---- the order
 
-pub below-values : (a b : Beat) (x y : ℤ) (d : ℕ) → 0 < a .den → 0 < b .den → 0 < d → HasValue a x d → HasValue b y d → belowBeat a b ≡ ltZ x y
+pub below-values : (a b : Beat) (x y : ℤ) (d : ℕ) → 0 < a .den → 0 < b .den → 0 < d → Worth a x d → Worth b y d → belowBeat a b ≡ ltZ x y
 below-values a b x y d p q h v w = sym (below-is a b) ∙ ap isLess (order-values a b x y d p q h v w) ∙ less-is x y
 
 pub below-same : (a : Beat) → belowBeat a a ≡ false
@@ -82,7 +82,7 @@ small-accepted n d h k = sym (fit (pos n) d (λ i. le-leb n 9223372036854775807 
 -- a beat that is n / d
 pub record Is (beat : Beat) (n d : ℕ) : Type 0 where
   pub fine : isBeat beat ≡ true
-  pub value : HasValue beat (pos n) d
+  pub value : Worth beat (pos n) d
 
 pub is-same : {beat : Beat} (n m d e : ℕ) → 0 < d → n * e ≡ m * d → Is beat n d → Is beat m e
 is-same {beat} n m d e above q b = record { fine = b .fine; value = value-same beat (pos n) (pos m) d e above (ap pos q) (b .value) }

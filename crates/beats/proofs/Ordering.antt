@@ -15,7 +15,7 @@ use Rattle.numbers.proofs.Laws.{holds, gap-times, lt-trans, sums-apart, grown, 
 use Rattle.beats.specs.declared.Beat.{Beat}
 use Rattle.beats.specs.Beats.{isBeat, wholeBeat}
 use Rattle.beats.specs.Sums.{addBeats, mulBeat, orderOfBeats, belowBeat}
-use Rattle.beats.specs.Values.{HasValue}
+use Rattle.beats.specs.Values.{Worth}
 use Rattle.beats.proofs.Lowest.{same-beat}
 use Rattle.beats.proofs.Refusing.{beat-above, beat-lowest}
 use Rattle.beats.proofs.Values.{cross, own-value, own-value-left, sum-value, scaled-value, accepted-beat}
@@ -40,7 +40,7 @@ order-equal a b p q e =
 -- ---- the order of the values
 
 -- over one denominator the order is that of the numerators
-pub order-values : (a b : Beat) (x y : ℤ) (d : ℕ) → 0 < a .den → 0 < b .den → 0 < d → HasValue a x d → HasValue b y d → orderOfBeats a b ≡ orderOf (x -ℤ y)
+pub order-values : (a b : Beat) (x y : ℤ) (d : ℕ) → 0 < a .den → 0 < b .den → 0 < d → Worth a x d → Worth b y d → orderOfBeats a b ≡ orderOf (x -ℤ y)
 order-values a b x y d p q h v w =
     sym (order-times (a .num *ℤ pos (b .den) -ℤ b .num *ℤ pos (a .den)) d h)
     ∙ ap orderOf (cross _-ℤ_ gap-times a b x y d v w)
@@ -60,17 +60,17 @@ module _ (a b c : Beat) where
   abbrev third : ℤ
   third = c .num *ℤ pos (a .den * b .den)
 
-  first-value : HasValue a first all
-  first-value = subst (λ (k : ℕ). HasValue a first k) (sym (mul-assoc (a .den) (b .den) (c .den))) (own-value a (b .den * c .den))
+  first-value : Worth a first all
+  first-value = subst (λ (k : ℕ). Worth a first k) (sym (mul-assoc (a .den) (b .den) (c .den))) (own-value a (b .den * c .den))
 
-  second-value : HasValue b second all
-  second-value = subst (λ (k : ℕ). HasValue b second k) (turn (a .den) (b .den) (c .den)) (own-value b (a .den * c .den))
+  second-value : Worth b second all
+  second-value = subst (λ (k : ℕ). Worth b second k) (turn (a .den) (b .den) (c .den)) (own-value b (a .den * c .den))
     where
       turn : (x y z : ℕ) → y * (x * z) ≡ x * y * z
       turn x y z = omega arith
 
-  third-value : HasValue c third all
-  third-value = subst (λ (k : ℕ). HasValue c third k) (mul-comm (c .den) (a .den * b .den)) (own-value c (a .den * b .den))
+  third-value : Worth c third all
+  third-value = subst (λ (k : ℕ). Worth c third k) (mul-comm (c .den) (a .den * b .den)) (own-value c (a .den * b .den))
 
 pub below-trans : (a b c : Beat) → 0 < a .den → 0 < b .den → 0 < c .den → belowBeat a b ≡ true → belowBeat b c ≡ true → belowBeat a c ≡ true
 below-trans a b c p q r s t =
@@ -111,8 +111,8 @@ sum-grows a c x p r e =
     let d = a .den * c .den in
     let h : 0 < d = mul-pos p r in
     let n = c .num *ℤ pos (a .den) in
-    let v : HasValue a (a .num *ℤ pos (c .den)) d = own-value a (c .den) in
-    let w : HasValue c n d = own-value-left c (a .den) in
+    let v : Worth a (a .num *ℤ pos (c .den)) d = own-value a (c .den) in
+    let w : Worth c n d = own-value-left c (a .den) in
     order-values a x (a .num *ℤ pos (c .den)) (a .num *ℤ pos (c .den) +ℤ n) d p (beat-above x (accepted-beat _ _ x e)) h v (sum-value a c x (a .num *ℤ pos (c .den)) n d p r v w e)
     ∙ ap orderOf (grown (a .num *ℤ pos (c .den)) n ∙ sym (+ℤ-idl (negℤ n)))
     ∙ sym (order-values (wholeBeat (pos 0)) c (pos 0) n d (omega arith) r h (zero-*ℤ (pos d) ∙ sym (zero-*ℤ (pos 1))) w)
@@ -121,8 +121,8 @@ sum-grows a c x p r e =
 pub scale-order : (a b x y : Beat) (n : ℕ) → 0 < n → 0 < a .den → 0 < b .den → mulBeat a (pos n) 1 ≡ accepted x → mulBeat b (pos n) 1 ≡ accepted y → orderOfBeats x y ≡ orderOfBeats a b
 scale-order a b x y n h p q e f =
     let d = a .den * b .den in
-    let v : HasValue a (a .num *ℤ pos (b .den)) d = own-value a (b .den) in
-    let w : HasValue b (b .num *ℤ pos (a .den)) d = own-value-left b (a .den) in
+    let v : Worth a (a .num *ℤ pos (b .den)) d = own-value a (b .den) in
+    let w : Worth b (b .num *ℤ pos (a .den)) d = own-value-left b (a .den) in
     order-values x y (a .num *ℤ pos (b .den) *ℤ pos n) (b .num *ℤ pos (a .den) *ℤ pos n) d (beat-above x (accepted-beat _ _ x e)) (beat-above y (accepted-beat _ _ y f)) (mul-pos p q)
     (scaled-value a x (a .num *ℤ pos (b .den)) (pos n) d p v e)
     (scaled-value b y (b .num *ℤ pos (a .den)) (pos n) d q w f)

@@ -15,12 +15,12 @@ use Rattle.beats.specs.Beats.{newBeat, ifBeat, ifBeats, wholeBeat}
 -- ---- the test for 2
 
 -- as they stand, before reduction, num is an i64 and den is at most 2^32 - 1
-abbrev pub fits : ℤ → ℕ → Bool
-fits num den = inI64 num && leb den 4294967295
+abbrev pub storable : ℤ → ℕ → Bool
+storable num den = inI64 num && leb den 4294967295
 
 -- num / den in lowest terms, or refused by 2
 unfoldable pub fitted : ℤ → ℕ → Answer Beat
-fitted num den = cond (fits num den) (accepted (newBeat num den)) (refused 2 [])
+fitted num den = cond (storable num den) (accepted (newBeat num den)) (refused 2 [])
 
 -- ---- sums, differences and multiples of two numbers num / den
 

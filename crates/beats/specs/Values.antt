@@ -5,5 +5,5 @@ use lib.IntN.{ℤ, pos, _*ℤ_}
 use Rattle.beats.specs.declared.Beat.{Beat}
 
 -- the beat is the number num / den
-abbrev pub HasValue : Beat → ℤ → ℕ → Type 0
-HasValue beat num den = beat .num *ℤ pos den ≡ num *ℤ pos (beat .den)
+abbrev pub Worth : Beat → ℤ → ℕ → Type 0
+Worth beat num den = beat .num *ℤ pos den ≡ num *ℤ pos (beat .den)

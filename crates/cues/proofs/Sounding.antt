@@ -14,7 +14,7 @@ use Rattle.transport.specs.Transports.{sound, playing}
 use Rattle.transport.specs.Advances.{advanced}
 use Rattle.transport.specs.Promise.{Composes}
 use Rattle.transport.proofs.Laws.{stays-put, advanced-plays, composes}
-use Rattle.cues.specs.Sounding.{Cue, when, standsAt, soundedAt, linesEqual, cuesAt, cues, later}
+use Rattle.cues.specs.Sounding.{Cue, cueIf, standsAt, soundedAt, linesEqual, cuesAt, cues, later}
 
 -- ---- the frame sounded
 
@@ -58,16 +58,16 @@ pub length-later : (time : ℕ) (xs : List Cue) → length (map (later time) xs)
 length-later time [] = refl
 length-later time (x ∷ xs) = ap suc (length-later time xs)
 
-later-when : (time : ℕ) (q : Bool) (cue : Cue) → map (later time) (when q cue) ≡ when q (later time cue)
+later-when : (time : ℕ) (q : Bool) (cue : Cue) → map (later time) (cueIf q cue) ≡ cueIf q (later time cue)
 later-when time true cue = refl
 later-when time false cue = refl
 
 later-lines : (a time frame place : ℕ) (lines : List ℕ) → map (later a) (linesEqual time frame place lines) ≡ linesEqual (a + time) frame place lines
 later-lines a time frame place [] = refl
 later-lines a time frame place (line ∷ rest) =
-    later-append a (when (eqb line frame) (time, place)) (linesEqual time frame (suc place) rest)
+    later-append a (cueIf (eqb line frame) (time, place)) (linesEqual time frame (suc place) rest)
     ∙ ap (λ (l : List Cue). l ++ map (later a) (linesEqual time frame (suc place) rest)) (later-when a (eqb line frame) (time, place))
-    ∙ ap (λ (l : List Cue). when (eqb line frame) (a + time, place) ++ l) (later-lines a time frame (suc place) rest)
+    ∙ ap (λ (l : List Cue). cueIf (eqb line frame) (a + time, place) ++ l) (later-lines a time frame (suc place) rest)
 
 later-at : (a time : ℕ) (lines : List ℕ) (frame : Option ℕ) → map (later a) (cuesAt lines time frame) ≡ cuesAt lines (a + time) frame
 later-at a time lines none = refl

@@ -20,7 +20,7 @@ use Rattle.transport.specs.Advances.{standing, came, advanced}
 use Rattle.transport.proofs.Laws.{plays-on}
 use Rattle.lines.specs.Lines.{ascendsFrom, ascends}
 use Rattle.lines.proofs.Laws.{up-step}
-use Rattle.cues.specs.Sounding.{Cue, when, standsAt, soundedAt, linesEqual, cuesAt, cues, later}
+use Rattle.cues.specs.Sounding.{Cue, cueIf, standsAt, soundedAt, linesEqual, cuesAt, cues, later}
 use Rattle.cues.specs.Plans.{stretch}
 use Rattle.cues.proofs.Sounding.{sounds-playing, silent, cues-on}
 

@@ -11,7 +11,7 @@ use Rattle.lines.specs.Lines.{ascends}
 use Rattle.cues.specs.declared.plan.Plan.{Plan}
 use Rattle.cues.specs.declared.count.Counted.{Counted}
 use Rattle.cues.specs.declared.count.Counted.the-variants.{Fits, TooMany}
-use Rattle.cues.specs.Sounding.{Cue, when, cues, later}
+use Rattle.cues.specs.Sounding.{Cue, cueIf, cues, later}
 use Rattle.cues.specs.CueCall.{roomFor, flat, over}
 
 -- ---- stretches
@@ -19,7 +19,7 @@ use Rattle.cues.specs.CueCall.{roomFor, flat, over}
 -- the cues of so many frames that sound one after the other from a frame on; the first line has this place
 abbrev pub stretch : ℕ → ℕ → ℕ → List ℕ → List Cue
 stretch from frames place [] = []
-stretch from frames place (line ∷ rest) = when (leb from line && ltb line (from + frames)) (line - from, place) ++ stretch from frames (suc place) rest
+stretch from frames place (line ∷ rest) = cueIf (leb from line && ltb line (from + frames)) (line - from, place) ++ stretch from frames (suc place) rest
 
 -- so many laps of `lap` frames from start, and then `last` frames from start
 abbrev pub lapCues : ℕ → ℕ → ℕ → List ℕ → ℕ → List Cue

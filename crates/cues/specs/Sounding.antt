@@ -25,14 +25,14 @@ soundedAt t time = cond (playing (t .state)) (standsAt (advanced t time)) none
 abbrev pub Cue : Type 0
 Cue = ℕ × ℕ
 
-abbrev pub when : Bool → Cue → List Cue
-when true cue = cue ∷ []
-when false cue = []
+abbrev pub cueIf : Bool → Cue → List Cue
+cueIf true cue = cue ∷ []
+cueIf false cue = []
 
 -- each line equal to the frame; the first line has this place
 abbrev pub linesEqual : ℕ → ℕ → ℕ → List ℕ → List Cue
 linesEqual time frame place [] = []
-linesEqual time frame place (line ∷ rest) = when (eqb line frame) (time, place) ++ linesEqual time frame (suc place) rest
+linesEqual time frame place (line ∷ rest) = cueIf (eqb line frame) (time, place) ++ linesEqual time frame (suc place) rest
 
 -- places count from 0
 abbrev pub cuesAt : List ℕ → ℕ → Option ℕ → List Cue

@@ -20,7 +20,7 @@ use Rattle.tempo.specs.Answers.{allBeats}
 use Rattle.tempo.specs.Tempos.{tempoOf, tempoPoints}
 use Rattle.tempo.specs.Rising.{Follows, RisingFrom, RisingMap}
 use Rattle.tempo.proofs.Laws.{finite-tempo}
-use Rattle.problems.specs.Problems.{Problem, when, Listed, listed, soundTempo, tempoBits, tempoPointsAfter, tempoProblems}
+use Rattle.problems.specs.Problems.{Problem, problemIf, Listed, listed, soundTempo, tempoBits, tempoPointsAfter, tempoProblems}
 use Rattle.filler.specs.Promise.{smallBeat, allSmall}
 use Rattle.filler.proofs.Ordering.{Placed, exactly, zero-placed, placed-finite, placed-up, placed-below, placed-zero, placed-after, beat-zero}
 
@@ -34,7 +34,7 @@ none-right : (xs ys : List Problem) → xs ++ ys ≡ [] → ys ≡ []
 none-right [] ys e = e
 none-right (x ∷ xs) ys e = cc
 
-none-when : (found : Bool) (code index value : ℕ) → when found code index value ≡ [] → found ≡ false
+none-when : (found : Bool) (code index value : ℕ) → problemIf found code index value ≡ [] → found ≡ false
 none-when true code index value e = cc
 none-when false code index value e = refl
 
@@ -68,7 +68,7 @@ rises index before (num ∷ nums) (den ∷ dens) [] p b e s = tt
 rises index before (num ∷ nums) (den ∷ dens) (bits ∷ tempos) p b e s =
     let at : Beat = record { num = num; den = den } in
     let point : Listed = record { at = at; bits = bits } in
-    let after = when (not (belowBeat before at)) 9 index 0 in
+    let after = problemIf (not (belowBeat before at)) 9 index 0 in
     let rest = tempoPointsAfter (suc index) at (listed nums dens tempos) in
     let above = beat-above at (and-left (isBeat at) (allBeats nums dens) b) in
     let below = not-false (belowBeat before at) (none-when (not (belowBeat before at)) 9 index 0 (none-left after rest (none-right (tempoBits index point) (after ++ rest) e))) in
@@ -89,9 +89,9 @@ map-rises (num ∷ nums) (den ∷ dens) [] b e s = tt
 map-rises (num ∷ nums) (den ∷ dens) (bits ∷ tempos) b e s =
     let at : Beat = record { num = num; den = den } in
     let point : Listed = record { at = at; bits = bits } in
-    let many = when (ltb 1024 (length (point ∷ listed nums dens tempos))) 6 0 (length (point ∷ listed nums dens tempos)) in
-    let late = when (belowBeat (wholeBeat (pos 0)) at) 7 0 0 in
-    let early = when (belowBeat at (wholeBeat (pos 0))) 7 0 0 in
+    let many = problemIf (ltb 1024 (length (point ∷ listed nums dens tempos))) 6 0 (length (point ∷ listed nums dens tempos)) in
+    let late = problemIf (belowBeat (wholeBeat (pos 0)) at) 7 0 0 in
+    let early = problemIf (belowBeat at (wholeBeat (pos 0))) 7 0 0 in
     let rest = tempoPointsAfter 1 at (listed nums dens tempos) in
     let ends = none-right late (early ++ (tempoBits 0 point ++ rest)) (none-right many (late ++ (early ++ (tempoBits 0 point ++ rest))) e) in
     let below = none-when (belowBeat at (wholeBeat (pos 0))) 7 0 0 (none-left early (tempoBits 0 point ++ rest) ends) in

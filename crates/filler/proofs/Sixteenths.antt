@@ -14,7 +14,7 @@ use lib.Pow.{pow-pos, pow-add}
 use Rattle.numbers.proofs.Laws.{by-order, and-left, and-right}
 use Rattle.beats.specs.declared.Beat.{Beat}
 use Rattle.beats.specs.Beats.{isBeat}
-use Rattle.beats.specs.Values.{HasValue}
+use Rattle.beats.specs.Values.{Worth}
 use Rattle.beats.proofs.Laws.{own-value, value-same, beat-above, beat-lowest, den-divides, sum-has}
 use Rattle.meter.specs.declared.MeterPoint.{MeterPoint}
 use Rattle.meter.specs.declared.Pickup.{Pickup}
@@ -108,9 +108,9 @@ module _ (map : List MeterPoint) (default : ℕ) (pickup : Pickup) (sound : soun
   good-meter bar = last-good map 0 bar (fallback default) (and-right (firstZero map) (soundFrom 0 map) (and-right (leb (length map) 256) (firstZero map && soundFrom 0 map) sound)) refl
 
   -- a bar after bar 0 is m / 16
-  sixteenths-long : (bar : ℕ) → 0 < bar → HasValue (barLen map default pickup bar) (pos (sixteenths (meterAt map default bar))) 16
+  sixteenths-long : (bar : ℕ) → 0 < bar → Worth (barLen map default pickup bar) (pos (sixteenths (meterAt map default bar))) 16
   sixteenths-long bar h =
-      subst (λ (b : Beat). HasValue b (pos (sixteenths (meterAt map default bar))) 16) (len-rest map default pickup bar (λ e. omega arith))
+      subst (λ (b : Beat). Worth b (pos (sixteenths (meterAt map default bar))) 16) (len-rest map default pickup bar (λ e. omega arith))
       (good-len (meterAt map default bar) (good-meter bar) .value)
 
   later-beat : (bar : ℕ) → 0 < bar → isBeat (barLen map default pickup bar) ≡ true
@@ -122,12 +122,12 @@ module _ (map : List MeterPoint) (default : ℕ) (pickup : Pickup) (sound : soun
     abbrev den : ℕ
     den = exact i .den
 
-    span : (k : ℕ) → (s : ℕ) × HasValue (exact (i + k)) (pos (n * 16 + s * den)) (den * 16)
+    span : (k : ℕ) → (s : ℕ) × Worth (exact (i + k)) (pos (n * 16 + s * den)) (den * 16)
     unfolding exactStart
     span zero = (
       0,
-      subst (λ (b : Beat). HasValue b (pos (n * 16 + 0 * den)) (den * 16)) (ap exact (sym (add-zero i)))
-          (subst (λ (z : ℤ). HasValue (exact i) z (den * 16)) (ap (λ (z : ℤ). z *ℤ pos 16) is ∙ ap pos (none (n * 16) den)) (own-value (exact i) 16)),
+      subst (λ (b : Beat). Worth b (pos (n * 16 + 0 * den)) (den * 16)) (ap exact (sym (add-zero i)))
+          (subst (λ (z : ℤ). Worth (exact i) z (den * 16)) (ap (λ (z : ℤ). z *ℤ pos 16) is ∙ ap pos (none (n * 16) den)) (own-value (exact i) 16)),
     )
       where
         none : (a b : ℕ) → a ≡ a + 0 * b
@@ -138,8 +138,8 @@ module _ (map : List MeterPoint) (default : ℕ) (pickup : Pickup) (sound : soun
         let a = exact (i + k) in
         let l = barLen map default pickup (i + k) in (
           w .0 + m,
-          subst (λ (b : Beat). HasValue b (pos (n * 16 + (w .0 + m) * den)) (den * 16)) (sym (ap exact (add-suc i k)))
-              (subst (λ (x : ℕ). HasValue (exact (suc (i + k))) (pos x) (den * 16)) (more (n * 16) (w .0) m den)
+          subst (λ (b : Beat). Worth b (pos (n * 16 + (w .0 + m) * den)) (den * 16)) (sym (ap exact (add-suc i k)))
+              (subst (λ (x : ℕ). Worth (exact (suc (i + k))) (pos x) (den * 16)) (more (n * 16) (w .0) m den)
               (sum-has a l (pos (n * 16 + w .0 * den)) (pos (m * den)) (den * 16) (beat-above a (exact-beat map default pickup (i + k))) (beat-above l (later-beat (i + k) (omega arith))) (w .1)
               (value-same l (pos m) (pos (m * den)) 16 (den * 16) (lit< tt) (ap pos (spread m den)) (sixteenths-long (i + k) (omega arith))))),
         )
@@ -155,7 +155,7 @@ module _ (map : List MeterPoint) (default : ℕ) (pickup : Pickup) (sound : soun
     starts-dyadic j m l js =
         let e : i + (j - i) ≡ j = omega arith in
         let w = span (j - i) in
-        let v : HasValue (exact j) (pos (n * 16 + w .0 * den)) (den * 16) = subst (λ (k : ℕ). HasValue (exact k) (pos (n * 16 + w .0 * den)) (den * 16)) e (w .1) in
+        let v : Worth (exact j) (pos (n * 16 + w .0 * den)) (den * 16) = subst (λ (k : ℕ). Worth (exact k) (pos (n * 16 + w .0 * den)) (den * 16)) e (w .1) in
         let other = exact j .den in
         let D : 0 < den = beat-above (exact i) (exact-beat map default pickup i) in
         let E : 0 < other = beat-above (exact j) (exact-beat map default pickup j) in

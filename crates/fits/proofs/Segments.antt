@@ -14,7 +14,7 @@ use Rattle.numbers.proofs.Laws.{never, by-order, up, down, up-times, and-left, 
 use Rattle.beats.specs.declared.Beat.{Beat}
 use Rattle.beats.specs.Beats.{isBeat}
 use Rattle.beats.specs.Sums.{fitted, addBeats, mulBeat}
-use Rattle.beats.specs.Values.{HasValue}
+use Rattle.beats.specs.Values.{Worth}
 use Rattle.beats.proofs.Laws.{den-divides, beat-above, beat-lowest, accepted-beat, accepted-value, accepted-fits, scaled-value, scaled, added, value-forward}
 use Rattle.meter.specs.declared.MeterPoint.{MeterPoint}
 use Rattle.meter.specs.Meters.{lenOf}
@@ -126,7 +126,7 @@ module _ (s e n d : ℕ) (fa : isBeat (beatOf s e) ≡ true) (fl : isBeat (beatO
       let a₁ = a .1 in
       let hm : 0 < m = beat-above span (accepted-beat _ _ span es) in
       let hd : 0 < d = beat-above each fl in
-      let v : HasValue span (pos (n * k)) d = scaled-value each span (pos n) (pos k) d hd refl es in
+      let v : Worth span (pos (n * k)) d = scaled-value each span (pos n) (pos k) d hd refl es in
       let w : span .num ≡ pos u = natural (span .num) (value-forward span (n * k) d hd v) in
       let b = fitted-small (s * m + u * e) (e * m) c (sym (ap (λ (z : ℤ). fitted (pos s *ℤ pos m +ℤ z *ℤ pos e) (e * m)) w) ∙ ec) in
       let x : u * d ≡ n * k * m = sym (up-times (span .num) d) ∙ ap up v in

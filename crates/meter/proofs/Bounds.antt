@@ -15,7 +15,7 @@ use Rattle.numbers.proofs.Laws.{by-order, up, and-left, and-right, not-negative
 use Rattle.beats.specs.declared.Beat.{Beat}
 use Rattle.beats.specs.Beats.{isBeat}
 use Rattle.beats.specs.Sums.{addBeats}
-use Rattle.beats.specs.Values.{HasValue}
+use Rattle.beats.specs.Values.{Worth}
 use Rattle.beats.proofs.Laws.{Is, is-same, scaled, added, new-is-beat, new-value, own-value, beat-above, zero-beat}
 use Rattle.meter.specs.declared.MeterPoint.{MeterPoint}
 use Rattle.meter.specs.declared.Pickup.{Pickup}
@@ -173,9 +173,9 @@ module _ (map : List MeterPoint) (default : ℕ) (sound : soundMap map ≡ true)
       let l : u ≤ 2 ^ 45 * beat .den
       = leb-true u (2 ^ 45 * beat .den) (sym (ap (λ (x : ℤ). leZ x (pos (2 ^ 45 * beat .den))) e) ∙ and-right (leb (beat .den) 64) (leZ (beat .num) (pos (2 ^ 45 * beat .den))) t) in
       let v : beat .den * bar ≤ 64 * 2147483648 = mul-le-mul d h in
-      let o : HasValue beat (pos (u * 16)) (beat .den * 16) = subst (λ (z : ℤ). HasValue beat (z *ℤ pos 16) (beat .den * 16)) e (own-value beat 16) in
+      let o : Worth beat (pos (u * 16)) (beat .den * 16) = subst (λ (z : ℤ). Worth beat (z *ℤ pos 16) (beat .den * 16)) e (own-value beat 16) in
       sure-start (beat .den) 262144 (2 ^ 56) (room (beat .den) (beat-above beat fine) d) map default (Present beat) (λ j. meters j .den) size
-      (u * 16) bar (record { fine = fine; value = subst (λ (k : ℕ). HasValue beat (pos (u * 16)) k) (mul-comm (beat .den) 16) o }) h (omega arith)
+      (u * 16) bar (record { fine = fine; value = subst (λ (k : ℕ). Worth beat (pos (u * 16)) k) (mul-comm (beat .den) 16) o }) h (omega arith)
 
   -- a score within the bounds fits
   pub suffices : (pickup : Pickup) → forwardPickup pickup ≡ true → smallPickup pickup ≡ true → Fits map default pickup

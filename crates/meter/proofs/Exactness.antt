@@ -12,7 +12,7 @@ use Rattle.numbers.proofs.Laws.{by-order, down, eq-parts, sum-parts, up-times, 
 use Rattle.beats.specs.declared.Beat.{Beat}
 use Rattle.beats.specs.Beats.{isBeat}
 use Rattle.beats.specs.Sums.{addBeats, mulBeat, orMost, belowBeat, sumOf}
-use Rattle.beats.specs.Values.{HasValue}
+use Rattle.beats.specs.Values.{Worth}
 use Rattle.beats.proofs.Laws.{new-is-beat, own-value, one-beat, beat-above, accepted-beat, sum-value, scaled-value, same-value, value-forward, zero-beat, own-value-left, sum-beat, sum-is, sum-has, below-values, below-same, not-below}
 use Rattle.meter.specs.declared.MeterPoint.{MeterPoint}
 use Rattle.meter.specs.declared.Pickup.{Pickup}
@@ -81,17 +81,17 @@ module _ (map : List MeterPoint) (default : ℕ) (pickup : Pickup) where
     len-above = beat-above (len i) (later-beat i h)
 
     -- n bars from bar i on that last as long as bar i, over one denominator
-    exact-bars : (n : ℕ) → ((j : ℕ) → i ≤ j → j < i + n → len j ≡ len i) → HasValue (exact (i + n)) (from +ℤ each *ℤ pos n) den
+    exact-bars : (n : ℕ) → ((j : ℕ) → i ≤ j → j < i + n → len j ≡ len i) → Worth (exact (i + n)) (from +ℤ each *ℤ pos n) den
     unfolding exactStart
     exact-bars zero same =
-        subst (λ (b : Beat). HasValue b (from +ℤ each *ℤ pos 0) den) (ap exact (sym (add-zero i)))
-        (subst (λ (z : ℤ). HasValue (exact i) z den) (none-more from each) (own-value (exact i) (len i .den)))
+        subst (λ (b : Beat). Worth b (from +ℤ each *ℤ pos 0) den) (ap exact (sym (add-zero i)))
+        (subst (λ (z : ℤ). Worth (exact i) z den) (none-more from each) (own-value (exact i) (len i .den)))
     exact-bars (suc n) same =
-        subst (λ (b : Beat). HasValue b (from +ℤ each *ℤ pos (suc n)) den) (sym (ap exact (add-suc i n)))
-        (subst (λ (z : ℤ). HasValue (exact (suc (i + n))) z den) (one-more from each n)
+        subst (λ (b : Beat). Worth b (from +ℤ each *ℤ pos (suc n)) den) (sym (ap exact (add-suc i n)))
+        (subst (λ (z : ℤ). Worth (exact (suc (i + n))) z den) (one-more from each n)
         (sum-has (exact (i + n)) (len (i + n)) (from +ℤ each *ℤ pos n) each den (beat-above (exact (i + n)) (exact-beat (i + n))) (beat-above (len (i + n)) (later-beat (i + n) (omega arith)))
         (exact-bars n (λ j p q. same j p (omega arith)))
-        (subst (λ (b : Beat). HasValue b each den) (sym (same (i + n) (omega arith) (omega arith))) (own-value-left (len i) (exact i .den)))))
+        (subst (λ (b : Beat). Worth b each den) (sym (same (i + n) (omega arith) (omega arith))) (own-value-left (len i) (exact i .den)))))
 
     -- its end
     segment-end : (n : ℕ) (c : Beat) → ((j : ℕ) → i ≤ j → j < i + n → len j ≡ len i) → checkedBars (exact i) (len i) n ≡ accepted c → (c ≡ exact (i + n)) × (afterBars (exact i) (len i) n ≡ c)

@@ -8,7 +8,7 @@ use native.Mathlib.Omega.{arith}
 use lib.ListN.{length, drop, length-append}
 use lib.Seq.{sets, length-sets, sets-eq}
 use Rattle.numbers.proofs.Laws.{sets-append}
-use Rattle.problems.specs.Problems.{Problem, when, flat}
+use Rattle.problems.specs.Problems.{Problem, problemIf, flat}
 use Rattle.problems.specs.Passes.{put, Ready, Passed}
 
 -- ---- the words of records
@@ -71,17 +71,17 @@ passed-none {writing} {out} {count} = record { counted = sym (add-zero count); w
     same false = refl
 
 -- nothing is found
-pub none : {writing : Bool} {out : List ℕ} {count : ℕ} (code index value : ℕ) (found : Bool) → found ≡ false → Passed writing out count (when found code index value) out count
+pub none : {writing : Bool} {out : List ℕ} {count : ℕ} (code index value : ℕ) (found : Bool) → found ≡ false → Passed writing out count (problemIf found code index value) out count
 none code index value found e = rw e passed-none
 
 -- a record is
 pub one : {writing : Bool} {out : List ℕ} {count : ℕ} (code index value : ℕ) (found : Bool) {after : List ℕ} → found ≡ true
-    → after ≡ cond writing (sets out (3 * count) (code ∷ index ∷ value ∷ [])) out → Passed writing out count (when found code index value) after (count + 1)
+    → after ≡ cond writing (sets out (3 * count) (code ∷ index ∷ value ∷ [])) out → Passed writing out count (problemIf found code index value) after (count + 1)
 unfolding flat
 one code index value found e h = rw e (record { counted = refl; words = h })
 
 pub ready-one : {writing : Bool} {out : List ℕ} {count : ℕ} (code index value : ℕ) (found : Bool) → found ≡ true
-    → Ready writing out count (when found code index value) → (count + 1 ≤ 4294967295) × (writing ≡ true → 3 * count + 3 ≤ length out)
+    → Ready writing out count (problemIf found code index value) → (count + 1 ≤ 4294967295) × (writing ≡ true → 3 * count + 3 ≤ length out)
 ready-one {writing} {out} {count} code index value found e ready =
     (more .fits, λ w. let room = more .room w in omega arith)
   where

@@ -8,7 +8,7 @@ use borrow.Author.Tests.{ltb-true, ltb-false, lt-ltb, le-leb, lt-leb}
 use lib.Dec.{ltb, leb, eqb, eqb·suc-zero}
 use Rattle.meter.specs.declared.MeterPoint.{MeterPoint}
 use Rattle.meter.specs.Fits.{goodDen, soundFrom, firstZero, soundMap}
-use Rattle.problems.specs.Problems.{Problem, when, meterPoint, meterPoints, firstBar, meterProblems}
+use Rattle.problems.specs.Problems.{Problem, problemIf, meterPoint, meterPoints, firstBar, meterProblems}
 
 -- ---- a list of records is empty
 
@@ -24,7 +24,7 @@ none-both : (xs ys : List Problem) → none (xs ++ ys) ≡ (none xs && none ys)
 none-both [] ys = refl
 none-both (x ∷ xs) ys = refl
 
-none-when : (found : Bool) (code index value : ℕ) → none (when found code index value) ≡ not found
+none-when : (found : Bool) (code index value : ℕ) → none (problemIf found code index value) ≡ not found
 none-when true code index value = refl
 none-when false code index value = refl
 

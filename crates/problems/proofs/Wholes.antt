@@ -13,7 +13,7 @@ use Rattle.beats.specs.Beats.{wholeBeat}
 use Rattle.beats.specs.Sums.{belowBeat}
 use Rattle.meter.specs.declared.MeterPoint.{MeterPoint}
 use Rattle.meter.specs.Fits.{goodDen}
-use Rattle.problems.specs.Problems.{Problem, Listed, when, meterPoint, meterPoints, meterProblems, soundTempo, tempoBits, tempoPointsAfter, tempoProblems}
+use Rattle.problems.specs.Problems.{Problem, Listed, problemIf, meterPoint, meterPoints, meterProblems, soundTempo, tempoBits, tempoPointsAfter, tempoProblems}
 use Rattle.problems.specs.Passes.{tempoStart, tempoFirst, tempoLater, tempoAt, tempoFrom, meterHead, meterAt, meterFrom}
 use Rattle.problems.proofs.Points.{head-later, tempo-later}
 
@@ -27,8 +27,8 @@ unfolding tempoFrom tempoLater tempoPointsAfter
 tempo-after n index before [] = refl
 tempo-after n index before (point ∷ rest) =
     ap (λ (l : List Problem). l ++ tempoFrom n (suc (suc index)) (point .at) rest) (tempo-later n (suc index) before point (above index))
-    ∙ append-assoc (tempoBits (suc index) point) (when (not (belowBeat before (point .at))) 9 (suc index) 0) (tempoFrom n (suc (suc index)) (point .at) rest)
-    ∙ ap (λ (l : List Problem). tempoBits (suc index) point ++ (when (not (belowBeat before (point .at))) 9 (suc index) 0 ++ l)) (tempo-after n (suc index) (point .at) rest)
+    ∙ append-assoc (tempoBits (suc index) point) (problemIf (not (belowBeat before (point .at))) 9 (suc index) 0) (tempoFrom n (suc (suc index)) (point .at) rest)
+    ∙ ap (λ (l : List Problem). tempoBits (suc index) point ++ (problemIf (not (belowBeat before (point .at))) 9 (suc index) 0 ++ l)) (tempo-after n (suc index) (point .at) rest)
 
 pub tempo-whole : (before : Beat) (points : List Listed) → tempoFrom (length points) 0 before points ≡ tempoProblems points
 unfolding tempoFrom tempoAt tempoFirst tempoStart tempoProblems
@@ -51,7 +51,7 @@ meter-whole (point ∷ rest) = simp (append-assoc, meter-after (length (point �
 
 -- ---- how many they are
 
-when-few : (found : Bool) (code index value : ℕ) → length (when found code index value) ≤ 1
+when-few : (found : Bool) (code index value : ℕ) → length (problemIf found code index value) ≤ 1
 when-few true code index value = omega arith
 when-few false code index value = omega arith
 
@@ -62,15 +62,15 @@ tempo-bits-few index point = when-few (not (soundTempo (ofBits binary32 (point .
 tempo-start-few : (at : Beat) → length (tempoStart at) ≤ 2
 unfolding tempoStart
 tempo-start-few at =
-    omega (arith, length-append (when (belowBeat (wholeBeat (pos 0)) at) 7 0 0) (when (belowBeat at (wholeBeat (pos 0))) 7 0 0), when-few (belowBeat (wholeBeat (pos 0)) at) 7 0 0, when-few (belowBeat at (wholeBeat (pos 0))) 7 0 0)
+    omega (arith, length-append (problemIf (belowBeat (wholeBeat (pos 0)) at) 7 0 0) (problemIf (belowBeat at (wholeBeat (pos 0))) 7 0 0), when-few (belowBeat (wholeBeat (pos 0)) at) 7 0 0, when-few (belowBeat at (wholeBeat (pos 0))) 7 0 0)
 
 tempo-at-few : (n index : ℕ) (before : Beat) (point : Listed) → length (tempoAt n index before point) ≤ 5
 unfolding tempoAt tempoFirst tempoLater
 tempo-at-few n index before point = by-place (eqb index 0)
   where
     by-place : (first : Bool) → length (cond first (tempoFirst n point) (tempoLater index before point)) ≤ 5
-    by-place true = omega (arith, length-append (when (ltb 1024 n) 6 0 n) (tempoStart (point .at) ++ tempoBits 0 point), length-append (tempoStart (point .at)) (tempoBits 0 point), when-few (ltb 1024 n) 6 0 n, tempo-start-few (point .at), tempo-bits-few 0 point)
-    by-place false = omega (arith, length-append (tempoBits index point) (when (not (belowBeat before (point .at))) 9 index 0), tempo-bits-few index point, when-few (not (belowBeat before (point .at))) 9 index 0)
+    by-place true = omega (arith, length-append (problemIf (ltb 1024 n) 6 0 n) (tempoStart (point .at) ++ tempoBits 0 point), length-append (tempoStart (point .at)) (tempoBits 0 point), when-few (ltb 1024 n) 6 0 n, tempo-start-few (point .at), tempo-bits-few 0 point)
+    by-place false = omega (arith, length-append (tempoBits index point) (problemIf (not (belowBeat before (point .at))) 9 index 0), tempo-bits-few index point, when-few (not (belowBeat before (point .at))) 9 index 0)
 
 tempo-from-few : (n index : ℕ) (before : Beat) (points : List Listed) → length (tempoFrom n index before points) ≤ 5 * length points
 unfolding tempoFrom
@@ -87,15 +87,15 @@ meter-at-few n index low point =
       arith,
       length-append (meterHead n index (point .bar)) (meterPoint index low point),
       by-place (eqb index 0),
-      length-append (when (eqb (point .numerator) 0) 3 index 0) (when (not (goodDen (point .denominator))) 4 index (point .denominator) ++ when (ltb (point .bar) low) 5 index 0),
-      length-append (when (not (goodDen (point .denominator))) 4 index (point .denominator)) (when (ltb (point .bar) low) 5 index 0),
+      length-append (problemIf (eqb (point .numerator) 0) 3 index 0) (problemIf (not (goodDen (point .denominator))) 4 index (point .denominator) ++ problemIf (ltb (point .bar) low) 5 index 0),
+      length-append (problemIf (not (goodDen (point .denominator))) 4 index (point .denominator)) (problemIf (ltb (point .bar) low) 5 index 0),
       when-few (eqb (point .numerator) 0) 3 index 0,
       when-few (not (goodDen (point .denominator))) 4 index (point .denominator),
       when-few (ltb (point .bar) low) 5 index 0,
     )
   where
-    by-place : (first : Bool) → length (cond first (when (ltb 256 n) 1 0 n ++ when (not (eqb (point .bar) 0)) 2 0 0) []) ≤ 2
-    by-place true = omega (arith, length-append (when (ltb 256 n) 1 0 n) (when (not (eqb (point .bar) 0)) 2 0 0), when-few (ltb 256 n) 1 0 n, when-few (not (eqb (point .bar) 0)) 2 0 0)
+    by-place : (first : Bool) → length (cond first (problemIf (ltb 256 n) 1 0 n ++ problemIf (not (eqb (point .bar) 0)) 2 0 0) []) ≤ 2
+    by-place true = omega (arith, length-append (problemIf (ltb 256 n) 1 0 n) (problemIf (not (eqb (point .bar) 0)) 2 0 0), when-few (ltb 256 n) 1 0 n, when-few (not (eqb (point .bar) 0)) 2 0 0)
     by-place false = omega arith
 
 meter-from-few : (n index low : ℕ) (points : List MeterPoint) → length (meterFrom n index low points) ≤ 5 * length points

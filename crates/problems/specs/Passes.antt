@@ -13,7 +13,7 @@ use Rattle.beats.specs.Beats.{wholeBeat}
 use Rattle.beats.specs.Sums.{belowBeat}
 use Rattle.meter.specs.declared.MeterPoint.{MeterPoint}
 use Rattle.problems.specs.declared.walk.State.{State}
-use Rattle.problems.specs.Problems.{Problem, Listed, when, flat, meterPoint, tempoBits}
+use Rattle.problems.specs.Problems.{Problem, Listed, problemIf, flat, meterPoint, tempoBits}
 
 -- ---- a part of a pass, from a count of records on
 
@@ -41,15 +41,15 @@ beatAt nums dens i = record { num = getD nums i (pos 0); den = getD dens i 0 }
 
 -- the record of a first beat that is not 0
 unfoldable pub tempoStart : Beat → List Problem
-tempoStart at = when (belowBeat (wholeBeat (pos 0)) at) 7 0 0 ++ when (belowBeat at (wholeBeat (pos 0))) 7 0 0
+tempoStart at = problemIf (belowBeat (wholeBeat (pos 0)) at) 7 0 0 ++ problemIf (belowBeat at (wholeBeat (pos 0))) 7 0 0
 
 -- the records of the first point, with those of the map
 unfoldable pub tempoFirst : ℕ → Listed → List Problem
-tempoFirst n point = when (ltb 1024 n) 6 0 n ++ (tempoStart (point .at) ++ tempoBits 0 point)
+tempoFirst n point = problemIf (ltb 1024 n) 6 0 n ++ (tempoStart (point .at) ++ tempoBits 0 point)
 
 -- the records of a point after a point at the beat `before`
 unfoldable pub tempoLater : ℕ → Beat → Listed → List Problem
-tempoLater index before point = tempoBits index point ++ when (not (belowBeat before (point .at))) 9 index 0
+tempoLater index before point = tempoBits index point ++ problemIf (not (belowBeat before (point .at))) 9 index 0
 
 unfoldable pub tempoAt : ℕ → ℕ → Beat → Listed → List Problem
 tempoAt n index before point = cond (eqb index 0) (tempoFirst n point) (tempoLater index before point)
@@ -66,7 +66,7 @@ pointOf bar numerator denominator = record { bar = bar; numerator = numerator; d
 
 -- the records of the map, which stand before those of the first point
 unfoldable pub meterHead : ℕ → ℕ → ℕ → List Problem
-meterHead n index bar = cond (eqb index 0) (when (ltb 256 n) 1 0 n ++ when (not (eqb bar 0)) 2 0 0) []
+meterHead n index bar = cond (eqb index 0) (problemIf (ltb 256 n) 1 0 n ++ problemIf (not (eqb bar 0)) 2 0 0) []
 
 unfoldable pub meterAt : ℕ → ℕ → ℕ → MeterPoint → List Problem
 meterAt n index low point = meterHead n index (point .bar) ++ meterPoint index low point

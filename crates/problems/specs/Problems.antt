@@ -20,17 +20,17 @@ pub record Problem : Type 0 where
   pub value : ℕ
 
 -- the problem, where there is one
-abbrev pub when : Bool → ℕ → ℕ → ℕ → List Problem
-when found code index value = cond found (record { code = code; index = index; value = value } ∷ []) []
+abbrev pub problemIf : Bool → ℕ → ℕ → ℕ → List Problem
+problemIf found code index value = cond found (record { code = code; index = index; value = value } ∷ []) []
 
 -- ---- a meter map
 
 -- 3 numerator 0, 4 a denominator that is no power of two up to 64, 5 a bar that is below `low`, one more than the bar before
 unfoldable pub meterPoint : ℕ → ℕ → MeterPoint → List Problem
 meterPoint index low point =
-    when (eqb (point .numerator) 0) 3 index 0
-    ++ (when (not (goodDen (point .denominator))) 4 index (point .denominator)
-    ++ when (ltb (point .bar) low) 5 index 0)
+    problemIf (eqb (point .numerator) 0) 3 index 0
+    ++ (problemIf (not (goodDen (point .denominator))) 4 index (point .denominator)
+    ++ problemIf (ltb (point .bar) low) 5 index 0)
 
 -- each point from an index on
 unfoldable pub meterPoints : ℕ → ℕ → List MeterPoint → List Problem
@@ -40,11 +40,11 @@ meterPoints index low (point ∷ rest) = meterPoint index low point ++ meterPoin
 -- 2 the first bar is not 0
 abbrev pub firstBar : List MeterPoint → List Problem
 firstBar [] = []
-firstBar (point ∷ rest) = when (not (eqb (point .bar) 0)) 2 0 0
+firstBar (point ∷ rest) = problemIf (not (eqb (point .bar) 0)) 2 0 0
 
 -- 1 over 256 points (with their count), then 2, then each point's. No bar is below 0, so the first point is not held to one before it
 unfoldable pub meterProblems : List MeterPoint → List Problem
-meterProblems map = when (ltb 256 (length map)) 1 0 (length map) ++ (firstBar map ++ meterPoints 0 0 map)
+meterProblems map = problemIf (ltb 256 (length map)) 1 0 (length map) ++ (firstBar map ++ meterPoints 0 0 map)
 
 -- ---- a tempo map
 
@@ -66,23 +66,23 @@ soundTempo tempo = lt float0 tempo && lt tempo (inf false)
 
 -- 8 a tempo that is not finite or not above 0 (with its bits)
 unfoldable pub tempoBits : ℕ → Listed → List Problem
-tempoBits index point = when (not (soundTempo (ofBits binary32 (point .bits)))) 8 index (point .bits)
+tempoBits index point = problemIf (not (soundTempo (ofBits binary32 (point .bits)))) 8 index (point .bits)
 
 -- each point from an index on, after a point at the beat `before`: 8, then 9 a beat that is not above the one before
 unfoldable pub tempoPointsAfter : ℕ → Beat → List Listed → List Problem
 tempoPointsAfter index before [] = []
 tempoPointsAfter index before (point ∷ rest) =
     tempoBits index point
-    ++ (when (not (belowBeat before (point .at))) 9 index 0
+    ++ (problemIf (not (belowBeat before (point .at))) 9 index 0
     ++ tempoPointsAfter (suc index) (point .at) rest)
 
 -- 6 over 1,024 points (with their count), 7 the first beat is not 0, then each point's
 unfoldable pub tempoProblems : List Listed → List Problem
 tempoProblems [] = []
 tempoProblems (first ∷ rest) =
-    when (ltb 1024 (length (first ∷ rest))) 6 0 (length (first ∷ rest))
-    ++ (when (belowBeat (wholeBeat (pos 0)) (first .at)) 7 0 0
-    ++ (when (belowBeat (first .at) (wholeBeat (pos 0))) 7 0 0
+    problemIf (ltb 1024 (length (first ∷ rest))) 6 0 (length (first ∷ rest))
+    ++ (problemIf (belowBeat (wholeBeat (pos 0)) (first .at)) 7 0 0
+    ++ (problemIf (belowBeat (first .at) (wholeBeat (pos 0))) 7 0 0
     ++ (tempoBits 0 first ++ tempoPointsAfter 1 (first .at) rest)))
 
 -- ---- the lent words

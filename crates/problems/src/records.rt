@@ -5,7 +5,7 @@ ghost use mathlib.Core.List.{[], _∷_};
 ghost use Prim.Native.Nat.{_+_, _*_, _≤_};
 ghost use lib.ListN.{length};
 ghost use lib.Seq.{sets};
-ghost use Rattle.problems.specs.Problems.{when};
+ghost use Rattle.problems.specs.Problems.{problemIf};
 ghost use Rattle.problems.specs.Passes.{Ready, Passed};
 
 // A pass that writes puts a record behind `count` others.
@@ -32,8 +32,8 @@ pub fn note(
     index: u32,
     value: u32,
 ) -> u32
-    requires { ⌜ Ready writing (now out) count (when found code index value) ⌝ }
-    ensures { λ r. ⌜ Passed writing (now (out .entry)) count (when found code index value) (now (out .exit)) r ⌝ }
+    requires { ⌜ Ready writing (now out) count (problemIf found code index value) ⌝ }
+    ensures { λ r. ⌜ Passed writing (now (out .entry)) count (problemIf found code index value) (now (out .exit)) r ⌝ }
 {
     if !found {
         return count;

@@ -14,7 +14,7 @@ use Rattle.tempo.specs.Answers.{allBeats}
 use Rattle.score.specs.declared.Score.{Score}
 use Rattle.score.specs.Bytes.{wordAt, numberAt, each}
 use Rattle.score.specs.Format.{isScore, pickupOf, pickupGood, tempoOffset, tempoCount, beatsGood, meterWords, tempoNums, tempoDens, tempoBits}
-use Rattle.score_writer.specs.Files.{low, high, wordsBytes, headerWords, pickupBeat, pointWords, tempoWords, fileOf}
+use Rattle.score_writer.specs.Files.{lowWord, highWord, wordsBytes, headerWords, pickupBeat, pointWords, tempoWords, fileOf}
 use Rattle.score_writer.specs.Promise.{AllBelow, AllInI64, Writable, ReadsBack}
 use Rattle.score_writer.proofs.Putting.{header-length, file-length}
 use Rattle.score_writer.proofs.Places.{word-back, words-back, points-back, good-is}
@@ -45,8 +45,8 @@ points-fit [] dens bits h f g = none
 points-fit (n ∷ nums) [] bits h f g = none
 points-fit (n ∷ nums) (d ∷ dens) [] h f g = none
 points-fit (n ∷ nums) (d ∷ dens) (b ∷ bits) h f g =
-    let l : low n < 2 ^ 32 = omega arith in
-    let u : high n < 2 ^ 32 = omega (arith, bits-fit n (h 0)) in
+    let l : lowWord n < 2 ^ 32 = omega arith in
+    let u : highWord n < 2 ^ 32 = omega (arith, bits-fit n (h 0)) in
     more l (more u (more (f 0) (more (g 0) (points-fit nums dens bits (λ k. h (suc k)) (λ k. f (suc k)) (λ k. g (suc k))))))
 
 module _ (score : Score) (meter : List ℕ) (nums : List ℤ) (dens bits : List ℕ) (w : Writable score meter nums dens bits) where
@@ -61,8 +61,8 @@ module _ (score : Score) (meter : List ℕ) (nums : List ℤ) (dens bits : List 
       let f = few in
       let num = pickupBeat (score .pickup) .num in
       let one : 1 < 2 ^ 32 = omega arith in
-      let l : low num < 2 ^ 32 = omega arith in
-      let u : high num < 2 ^ 32 = omega (arith, bits-fit num (w .typed .pickup-num-fits)) in
+      let l : lowWord num < 2 ^ 32 = omega arith in
+      let u : highWord num < 2 ^ 32 = omega (arith, bits-fit num (w .typed .pickup-num-fits)) in
       let m : score .meters < 2 ^ 32 = omega arith in
       let at : 48 < 2 ^ 32 = omega arith in
       let t : score .tempos < 2 ^ 32 = omega arith in

@@ -19,15 +19,15 @@ use Rattle.meter.specs.Meters.{soundPickup}
 use Rattle.score.specs.declared.Score.{Score}
 use Rattle.score.specs.Bytes.{wordAt, numberAt, each}
 use Rattle.score.specs.Format.{laidOut, pickupGood, pickupOf, scoreOf}
-use Rattle.score_writer.specs.Files.{low, high, pickupBeat, tempoOffsetFor, totalFor, headerWords}
+use Rattle.score_writer.specs.Files.{lowWord, highWord, pickupBeat, tempoOffsetFor, totalFor, headerWords}
 use Rattle.score_writer.specs.Answers.{fewPoints}
 use Rattle.score_writer.specs.Promise.{AllBelow}
 use Rattle.score_writer.proofs.Places.{number-at, low-again, high-again}
 
 pub record PickupSaid (b : List ℕ) (pickup : Pickup) : Type 0 where
   pub den : wordAt b 16 ≡ pickupBeat pickup .den
-  pub lower : wordAt b 20 ≡ low (pickupBeat pickup .num)
-  pub higher : wordAt b 24 ≡ high (pickupBeat pickup .num)
+  pub lower : wordAt b 20 ≡ lowWord (pickupBeat pickup .num)
+  pub higher : wordAt b 24 ≡ highWord (pickupBeat pickup .num)
 
 pub record HeaderSaid (b : List ℕ) (score : Score) : Type 0 where
   pub edition : wordAt b 0 ≡ 1

@@ -15,7 +15,7 @@ use Rattle.beats.specs.Beats.{isBeat}
 use Rattle.tempo.specs.Answers.{allBeats}
 use Rattle.score.specs.Bytes.{wordAt, numberAt, each}
 use Rattle.score.specs.Format.{beatAt, beatsGood}
-use Rattle.score_writer.specs.Files.{wordBytes, wordsBytes, low, high, pointWords, tempoWords}
+use Rattle.score_writer.specs.Files.{wordBytes, wordsBytes, lowWord, highWord, pointWords, tempoWords}
 use Rattle.score_writer.specs.Promise.{AllBelow, AllInI64}
 use Rattle.score_writer.proofs.Putting.{word-length}
 
@@ -106,7 +106,7 @@ module _ (b : List ℕ) where
 -- ---- numbers
 
 -- two words written are the number read
-pub number-at : (b : List ℕ) (p : ℕ) (num : ℤ) → inI64 num ≡ true → wordAt b p ≡ low num → wordAt b (p + 4) ≡ high num → numberAt b p ≡ num
+pub number-at : (b : List ℕ) (p : ℕ) (num : ℤ) → inI64 num ≡ true → wordAt b p ≡ lowWord num → wordAt b (p + 4) ≡ highWord num → numberAt b p ≡ num
 unfolding numberAt
 number-at b p num h e f =
     let whole : wordAt b p + wordAt b (p + 4) * 4294967296 ≡ bitsOf num = omega (arith, e, f) in
@@ -117,10 +117,10 @@ module _ (b : List ℕ) (all : AllBelow 256 b) (p : ℕ) where
   unfolding numberAt
   whole = bits-signed (wordAt b p + wordAt b (p + 4) * 4294967296) (omega (arith, word-fits b all p, word-fits b all (p + 4)))
 
-  pub low-again : low (numberAt b p) ≡ wordAt b p
+  pub low-again : lowWord (numberAt b p) ≡ wordAt b p
   low-again = omega (arith, whole, word-fits b all p)
 
-  pub high-again : high (numberAt b p) ≡ wordAt b (p + 4)
+  pub high-again : highWord (numberAt b p) ≡ wordAt b (p + 4)
   high-again = omega (arith, whole, word-fits b all p)
 
 -- ---- lists of words
@@ -162,7 +162,7 @@ module _ (ws : List ℕ) (all : AllBelow (2 ^ 32) ws) where
   points-back (n ∷ nums) (x ∷ dens) [] k e f h d = let z : ⊥ = omega arith in absurd z
   points-back (n ∷ nums) (x ∷ dens) (y ∷ bits) k e f h d =
       let b = wordsBytes ws in
-      let at : (j p : ℕ) → p ≡ 4 * (k + j) → wordAt b p ≡ getD (low n ∷ high n ∷ x ∷ y ∷ tempoWords nums dens bits) j 0 =
+      let at : (j p : ℕ) → p ≡ 4 * (k + j) → wordAt b p ≡ getD (lowWord n ∷ highWord n ∷ x ∷ y ∷ tempoWords nums dens bits) j 0 =
       λ j p q. place-back k j p q ∙ ap (λ (l : List ℕ). getD l j 0) d in
       let rest = points-back nums dens bits (k + 4) (omega arith) (omega arith) (λ j. h (suc j)) (sym (drop-drop 4 k ws) ∙ ap (drop 4) d) in
       let q : 4 * k + 16 ≡ 4 * (k + 4) = omega arith in

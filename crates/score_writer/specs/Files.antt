@@ -19,11 +19,11 @@ wordsBytes (word ∷ words) = wordBytes word ++ wordsBytes words
 
 -- ---- numbers as two words
 
-abbrev pub low : ℤ → ℕ
-low num = bitsOf num % 4294967296
+abbrev pub lowWord : ℤ → ℕ
+lowWord num = bitsOf num % 4294967296
 
-abbrev pub high : ℤ → ℕ
-high num = bitsOf num / 4294967296
+abbrev pub highWord : ℤ → ℕ
+highWord num = bitsOf num / 4294967296
 
 -- ---- the parts of a file
 
@@ -42,12 +42,12 @@ totalFor meters tempos = 48 + 12 * meters + 16 * tempos
 unfoldable pub headerWords : Score → List ℕ
 headerWords score =
     1 ∷ score .rate ∷ score .beats ∷ score .bpm ∷
-    pickupBeat (score .pickup) .den ∷ low (pickupBeat (score .pickup) .num) ∷ high (pickupBeat (score .pickup) .num) ∷
+    pickupBeat (score .pickup) .den ∷ lowWord (pickupBeat (score .pickup) .num) ∷ highWord (pickupBeat (score .pickup) .num) ∷
     score .meters ∷ 48 ∷ score .tempos ∷ tempoOffsetFor (score .meters) ∷ totalFor (score .meters) (score .tempos) ∷ []
 
 -- a tempo point: numerator low and high, denominator, bpm bits
 unfoldable pub pointWords : ℤ → ℕ → ℕ → List ℕ
-pointWords num den bits = low num ∷ high num ∷ den ∷ bits ∷ []
+pointWords num den bits = lowWord num ∷ highWord num ∷ den ∷ bits ∷ []
 
 -- the tempo points of three parallel lists
 unfoldable pub tempoWords : List ℤ → List ℕ → List ℕ → List ℕ

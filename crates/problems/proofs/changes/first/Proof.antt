@@ -2,7 +2,7 @@
 use borrow.Author.Needs.{needs}
 use mathlib.Core.List.{_++_}
 use lib.Dec.{ltb}
-use Rattle.problems.specs.Problems.{when, tempoBits}
+use Rattle.problems.specs.Problems.{problemIf, tempoBits}
 use Rattle.problems.specs.Passes.{listedAt, tempoStart, tempoFirst}
 use Rattle.problems.proofs.Passing.{ready-first, ready-then, passed-then}
 use Rattle.problems.proofs.changes.first.Statement.{statement}
@@ -13,7 +13,7 @@ unfolding tempoFirst
 note-requires c κs =
     let s = c .before .before in
     let a = s .args in
-    let x = when (ltb 1024 (a .n)) 6 0 (a .n) in
+    let x = problemIf (ltb 1024 (a .n)) 6 0 (a .n) in
     let y = tempoStart (a .at) in
     let z = tempoBits 0 (listedAt (a .at) (a .bits)) in
     ready-first x (y ++ z) (s .pre)
@@ -23,7 +23,7 @@ unfolding tempoFirst
 start-requires c κs =
     let s = c .before .before .before .before .before .before in
     let a = s .args in
-    let x = when (ltb 1024 (a .n)) 6 0 (a .n) in
+    let x = problemIf (ltb 1024 (a .n)) 6 0 (a .n) in
     let y = tempoStart (a .at) in
     let z = tempoBits 0 (listedAt (a .at) (a .bits)) in
     ready-first y z (ready-then x (y ++ z) (s .pre) (c .before .before .before .note .ensures))
@@ -33,7 +33,7 @@ unfolding tempoFirst
 own-requires c κs =
     let s = c .before .before .before .before .before .before .before .before .before .before in
     let a = s .args in
-    let x = when (ltb 1024 (a .n)) 6 0 (a .n) in
+    let x = problemIf (ltb 1024 (a .n)) 6 0 (a .n) in
     let y = tempoStart (a .at) in
     let z = tempoBits 0 (listedAt (a .at) (a .bits)) in
     ready-then y z (ready-then x (y ++ z) (s .pre) (c .before .before .before .before .before .before .before .note .ensures)) (c .before .before .before .start .ensures)
@@ -46,7 +46,7 @@ unfolding tempoFirst
 returns c =
     let s = c .before .before .before .before .before .before .before .before .before .before .before .before .before in
     let a = s .args in
-    let x = when (ltb 1024 (a .n)) 6 0 (a .n) in
+    let x = problemIf (ltb 1024 (a .n)) 6 0 (a .n) in
     let y = tempoStart (a .at) in
     let z = tempoBits 0 (listedAt (a .at) (a .bits)) in
     passed-then x (y ++ z) (c .before .before .before .before .before .before .before .before .before .before .note .ensures) (passed-then y z (c .before .before .before .before .before .before .start .ensures) (c .before .before .own .ensures))

@@ -2,7 +2,7 @@
 use borrow.Author.Needs.{needs}
 use mathlib.Core.Bool.{not}
 use Rattle.beats.specs.Sums.{belowBeat}
-use Rattle.problems.specs.Problems.{when, tempoBits}
+use Rattle.problems.specs.Problems.{problemIf, tempoBits}
 use Rattle.problems.specs.Passes.{listedAt, tempoLater}
 use Rattle.problems.proofs.Passing.{ready-first, ready-then, passed-then}
 use Rattle.problems.proofs.changes.later.Statement.{statement}
@@ -17,7 +17,7 @@ own-requires c κs =
     let s = c .before .before .before in
     let a = s .args in
     let x = tempoBits (a .index) (listedAt (a .at) (a .bits)) in
-    let y = when (not (belowBeat (a .before) (a .at))) 9 (a .index) 0 in
+    let y = problemIf (not (belowBeat (a .before) (a .at))) 9 (a .index) 0 in
     ready-first x y (s .pre)
 
 note-requires : tie.Need-note-requires
@@ -26,7 +26,7 @@ note-requires c κs =
     let s = c .before .before .before .before .before .before .before in
     let a = s .args in
     let x = tempoBits (a .index) (listedAt (a .at) (a .bits)) in
-    let y = when (not (belowBeat (a .before) (a .at))) 9 (a .index) 0 in
+    let y = problemIf (not (belowBeat (a .before) (a .at))) 9 (a .index) 0 in
     rw (c .before .before .before .before .before .below .ensures) (ready-then x y (s .pre) (c .before .before .before .own .ensures))
 
 same-length : tie.Need-same-length
@@ -38,7 +38,7 @@ returns c =
     let s = c .before .before .before .before .before .before .before .before .before .before in
     let a = s .args in
     let x = tempoBits (a .index) (listedAt (a .at) (a .bits)) in
-    let y = when (not (belowBeat (a .before) (a .at))) 9 (a .index) 0 in
+    let y = problemIf (not (belowBeat (a .before) (a .at))) 9 (a .index) 0 in
     passed-then x y (c .before .before .before .before .before .before .own .ensures) (rw (c .before .before .before .before .before .before .before .before .below .ensures) at (c .before .before .note .ensures))
 
 pub later-spec : {M : Type 1} → statement M

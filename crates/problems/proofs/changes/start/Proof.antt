@@ -6,7 +6,7 @@ use lib.IntN.{pos}
 use Rattle.beats.specs.declared.Beat.{Beat}
 use Rattle.beats.specs.Beats.{wholeBeat}
 use Rattle.beats.specs.Sums.{belowBeat}
-use Rattle.problems.specs.Problems.{Problem, when}
+use Rattle.problems.specs.Problems.{Problem, problemIf}
 use Rattle.problems.specs.Passes.{tempoStart}
 use Rattle.problems.proofs.Passing.{ready-first, ready-then, passed-then}
 use Rattle.problems.proofs.changes.start.Statement.{statement}
@@ -14,10 +14,10 @@ use Rattle.problems.proofs.changes.start.Tie as tie
 
 -- a beat above 0, and one below it
 abbrev over : Beat → List Problem
-over at = when (belowBeat (wholeBeat (pos 0)) at) 7 0 0
+over at = problemIf (belowBeat (wholeBeat (pos 0)) at) 7 0 0
 
 abbrev under : Beat → List Problem
-under at = when (belowBeat at (wholeBeat (pos 0))) 7 0 0
+under at = problemIf (belowBeat at (wholeBeat (pos 0))) 7 0 0
 
 zero-requires : tie.Need-zero-requires
 zero-requires c κs = search needs

@@ -3,7 +3,7 @@ use mathlib.Core.Bool.{not}
 use mathlib.Core.List.{_++_}
 use lib.Dec.{ltb, eqb}
 use Rattle.meter.specs.Fits.{goodDen}
-use Rattle.problems.specs.Problems.{when, meterPoint}
+use Rattle.problems.specs.Problems.{problemIf, meterPoint}
 use Rattle.problems.proofs.Passing.{ready-first, ready-then, passed-then}
 use borrow.Author.Needs.{needs}
 use Rattle.problems.proofs.walk.own.Statement.{statement}
@@ -14,9 +14,9 @@ unfolding meterPoint
 note-requires c κs =
     let s = c .before .before in
     let a = s .args in
-    let x = when (eqb (a .numerator) 0) 3 (a .index) 0 in
-    let y = when (not (goodDen (a .denominator))) 4 (a .index) (a .denominator) in
-    let z = when (ltb (a .bar) (a .low)) 5 (a .index) 0 in
+    let x = problemIf (eqb (a .numerator) 0) 3 (a .index) 0 in
+    let y = problemIf (not (goodDen (a .denominator))) 4 (a .index) (a .denominator) in
+    let z = problemIf (ltb (a .bar) (a .low)) 5 (a .index) 0 in
     ready-first x (y ++ z) (s .pre)
 
 good-denominator-requires : tie.Need-good-denominator-requires
@@ -27,9 +27,9 @@ unfolding meterPoint
 note-requires-2 c κs =
     let s = c .before .before .before .before .before .before .before in
     let a = s .args in
-    let x = when (eqb (a .numerator) 0) 3 (a .index) 0 in
-    let y = when (not (goodDen (a .denominator))) 4 (a .index) (a .denominator) in
-    let z = when (ltb (a .bar) (a .low)) 5 (a .index) 0 in
+    let x = problemIf (eqb (a .numerator) 0) 3 (a .index) 0 in
+    let y = problemIf (not (goodDen (a .denominator))) 4 (a .index) (a .denominator) in
+    let z = problemIf (ltb (a .bar) (a .low)) 5 (a .index) 0 in
     rw (c .before .good-denominator .ensures) (ready-first y z (ready-then x (y ++ z) (s .pre) (c .before .before .before .before .note .ensures)))
 
 note-requires-3 : tie.Need-note-requires-3
@@ -37,9 +37,9 @@ unfolding meterPoint
 note-requires-3 c κs =
     let s = c .before .before .before .before .before .before .before .before .before .before .before in
     let a = s .args in
-    let x = when (eqb (a .numerator) 0) 3 (a .index) 0 in
-    let y = when (not (goodDen (a .denominator))) 4 (a .index) (a .denominator) in
-    let z = when (ltb (a .bar) (a .low)) 5 (a .index) 0 in
+    let x = problemIf (eqb (a .numerator) 0) 3 (a .index) 0 in
+    let y = problemIf (not (goodDen (a .denominator))) 4 (a .index) (a .denominator) in
+    let z = problemIf (ltb (a .bar) (a .low)) 5 (a .index) 0 in
     ready-then y z (ready-then x (y ++ z) (s .pre) (c .before .before .before .before .before .before .before .before .note .ensures)) (rw (c .before .before .before .before .before .good-denominator .ensures) at (c .before .before .before .note2 .ensures))
 
 same-length : tie.Need-same-length
@@ -50,9 +50,9 @@ unfolding meterPoint
 returns c =
     let s = c .before .before .before .before .before .before .before .before .before .before .before .before .before .before in
     let a = s .args in
-    let x = when (eqb (a .numerator) 0) 3 (a .index) 0 in
-    let y = when (not (goodDen (a .denominator))) 4 (a .index) (a .denominator) in
-    let z = when (ltb (a .bar) (a .low)) 5 (a .index) 0 in
+    let x = problemIf (eqb (a .numerator) 0) 3 (a .index) 0 in
+    let y = problemIf (not (goodDen (a .denominator))) 4 (a .index) (a .denominator) in
+    let z = problemIf (ltb (a .bar) (a .low)) 5 (a .index) 0 in
     passed-then x (y ++ z) (c .before .before .before .before .before .before .before .before .before .before .before .note .ensures) (passed-then y z (rw (c .before .before .before .before .before .before .before .before .good-denominator .ensures) at (c .before .before .before .before .before .before .note2 .ensures)) (c .before .before .note3 .ensures))
 
 pub own-spec : {M : Type 1} → statement M
