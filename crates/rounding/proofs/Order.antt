@@ -1,6 +1,6 @@
 -- The test `<=` on floats is transitive, signs, infinities and NaNs included.
 use mathlib.Core.Path.{_≡_, sym, _∙_, subst}
-use mathlib.Core.Logic.{inl, inr}
+use mathlib.Core.Logic.{inl, inr, _↔_}
 use mathlib.Core.Bool.{Bool, true, false, _&&_, _||_}
 use Prim.Native.Nat.{ℕ, zero, suc, _+_, _*_, _≤_, _<_}
 use native.Mathlib.Nat.{le-of-lt, le-of-eq, le-trans, eq-or-lt-of-le, lt-irrefl, lt-of-lt-of-le, mul-pos}
@@ -28,21 +28,16 @@ Le (fin true m e) (fin false n d) = Unit
 Le (fin true m e) (fin true n d) = n * up d * down e ≤ m * up e * down d
 
 -- the test on two naturals
+of-test : (a b : ℕ) (x y : Bool) → (T x → a < b) → (T y → a ≡ b) → T (x || (y && true)) → a ≤ b
+of-test a b true y p q t = le-of-lt (p tt)
+of-test a b false true p q t = le-of-eq (q tt)
+of-test a b false false p q t = absurd t
+
 pub same : (a b : ℕ) → T (ltb a b || (eqb a b && true)) → a ≤ b
-same a b = go (ltb a b) (eqb a b) (ltb→lt a b) (eqb→eq a b)
-  where
-    go : (x y : Bool) → (T x → a < b) → (T y → a ≡ b) → T (x || (y && true)) → a ≤ b
-    go true y p q t = le-of-lt (p tt)
-    go false true p q t = le-of-eq (q tt)
-    go false false p q t = absurd t
+same a b = of-test a b (ltb a b) (eqb a b) (ltb→lt a b) (eqb→eq a b)
 
 turned : (a b : ℕ) → T (ltb b a || (eqb a b && true)) → b ≤ a
-turned a b = go (ltb b a) (eqb a b) (ltb→lt b a) (eqb→eq a b)
-  where
-    go : (x y : Bool) → (T x → b < a) → (T y → a ≡ b) → T (x || (y && true)) → b ≤ a
-    go true y p q t = le-of-lt (p tt)
-    go false true p q t = le-of-eq (sym (q tt))
-    go false false p q t = absurd t
+turned a b = of-test b a (ltb b a) (eqb a b) (ltb→lt b a) (λ t. sym (eqb→eq a b t))
 
 nought : (a b : ℕ) → T (eqb a b && (false || eqb a 0)) → (a ≤ 0) × (b ≤ 0)
 nought a b = go (eqb a b) (eqb a 0) (eqb→eq a b) (eqb→eq a 0)
@@ -52,30 +47,19 @@ nought a b = go (eqb a b) (eqb a 0) (eqb→eq a b) (eqb→eq a 0)
     go true false p q t = absurd t
     go false y p q t = absurd t
 
-from : (x y : Float) → T (le x y) → Le x y
-unfolding le lt
-from nan y h = absurd h
-from (inf s) nan h = absurd h
-from (inf true) (inf t) h = tt
-from (inf true) (fin t n d) h = tt
-from (inf false) (inf true) h = absurd h
-from (inf false) (inf false) h = tt
-from (inf false) (fin t n d) h = absurd h
-from (fin s m e) nan h = absurd h
-from (fin s m e) (inf true) h = absurd h
-from (fin s m e) (inf false) h = tt
-from (fin false m e) (fin false n d) h = same (m * up e * down d) (n * up d * down e) h
-from (fin false m e) (fin true n d) h = nought (m * up e * down d) (n * up d * down e) h
-from (fin true m e) (fin false n d) h = tt
-from (fin true m e) (fin true n d) h = turned (m * up e * down d) (n * up d * down e) h
+of-eq : (a b : ℕ) → a ≡ b → T (eqb a b)
+of-eq a b e = subst (λ (x : ℕ). T (eqb a x)) e (eqb-refl a)
 
-pub of-le : (a b : ℕ) (x y : Bool) → (a < b → T x) → (a ≡ b → T y) → a ≤ b → T (x || (y && true))
+of-le : (a b : ℕ) (x y : Bool) → (a < b → T x) → (a ≡ b → T y) → a ≤ b → T (x || (y && true))
 of-le a b true y p q h = tt
 of-le a b false true p q h = tt
 of-le a b false false p q h = elim (eq-or-lt-of-le h) [ inl w ↦ q w | inr w ↦ p w ]
 
-pub of-eq : (a b : ℕ) → a ≡ b → T (eqb a b)
-of-eq a b e = subst (λ (x : ℕ). T (eqb a x)) e (eqb-refl a)
+pub at-most : (a b : ℕ) → a ≤ b → T (ltb a b || (eqb a b && true))
+at-most a b h = of-le a b (ltb a b) (eqb a b) (lt→ltb a b) (of-eq a b) h
+
+of-turned : (a b : ℕ) → b ≤ a → T (ltb b a || (eqb a b && true))
+of-turned a b h = of-le b a (ltb b a) (eqb a b) (lt→ltb b a) (λ p. of-eq a b (sym p)) h
 
 of-nought : (a b : ℕ) → (a ≤ 0) × (b ≤ 0) → T (eqb a b && (false || eqb a 0))
 of-nought a b h = go (eqb a b) (eqb a 0) (of-eq a b (omega arith)) (of-eq a 0 (omega arith))
@@ -100,23 +84,26 @@ always a b = go (ltb 0 (a + b)) (eqb a b) (eqb a 0) (lt→ltb 0 (a + b)) (of-eq 
         by : (0 < a + b → ⊥) → (a ≡ b → ⊥) → ⊥
         by u v = v (omega arith)
 
-to : (x y : Float) → Le x y → T (le x y)
+as-is : {A : Type 0} → A ↔ A
+as-is = (λ h. h, λ h. h)
+
+is-le : (x y : Float) → T (le x y) ↔ Le x y
 unfolding le lt
-to nan y h = absurd h
-to (inf s) nan h = absurd h
-to (inf true) (inf true) h = tt
-to (inf true) (inf false) h = tt
-to (inf true) (fin t n d) h = tt
-to (inf false) (inf true) h = absurd h
-to (inf false) (inf false) h = tt
-to (inf false) (fin t n d) h = absurd h
-to (fin s m e) nan h = absurd h
-to (fin s m e) (inf true) h = absurd h
-to (fin s m e) (inf false) h = tt
-to (fin false m e) (fin false n d) h = of-le (m * up e * down d) (n * up d * down e) (ltb (m * up e * down d) (n * up d * down e)) (eqb (m * up e * down d) (n * up d * down e)) (lt→ltb _ _) (of-eq _ _) h
-to (fin false m e) (fin true n d) h = of-nought (m * up e * down d) (n * up d * down e) h
-to (fin true m e) (fin false n d) h = always (m * up e * down d) (n * up d * down e)
-to (fin true m e) (fin true n d) h = of-le (n * up d * down e) (m * up e * down d) (ltb (n * up d * down e) (m * up e * down d)) (eqb (m * up e * down d) (n * up d * down e)) (lt→ltb _ _) (λ p. of-eq _ _ (sym p)) h
+is-le nan y = as-is
+is-le (inf s) nan = as-is
+is-le (inf true) (inf true) = as-is
+is-le (inf true) (inf false) = as-is
+is-le (inf true) (fin t n d) = as-is
+is-le (inf false) (inf true) = as-is
+is-le (inf false) (inf false) = as-is
+is-le (inf false) (fin t n d) = as-is
+is-le (fin s m e) nan = as-is
+is-le (fin s m e) (inf true) = as-is
+is-le (fin s m e) (inf false) = as-is
+is-le (fin false m e) (fin false n d) = (same (m * up e * down d) (n * up d * down e), at-most (m * up e * down d) (n * up d * down e))
+is-le (fin false m e) (fin true n d) = (nought (m * up e * down d) (n * up d * down e), of-nought (m * up e * down d) (n * up d * down e))
+is-le (fin true m e) (fin false n d) = (λ h. tt, λ h. always (m * up e * down d) (n * up d * down e))
+is-le (fin true m e) (fin true n d) = (turned (m * up e * down d) (n * up d * down e), of-turned (m * up e * down d) (n * up d * down e))
 
 -- a product that is 0 with a factor above 0
 lost : (a b c : ℕ) → 0 < b → a * b ≤ 0 → a * c ≤ 0
@@ -160,4 +147,4 @@ trans (fin true m e) (fin true n d) (fin false o g) h k = tt
 trans (fin true m e) (fin true n d) (fin true o g) h k = through (o * up g) (n * up d) (m * up e) (down g) (down d) (down e) (down-pos d) k h
 
 pub le-trans-float : (x y z : Float) → T (le x y) → T (le y z) → T (le x z)
-le-trans-float x y z h k = to x z (trans x y z (from x y h) (from y z k))
+le-trans-float x y z h k = is-le x z .1 (trans x y z (is-le x y .0 h) (is-le y z .0 k))

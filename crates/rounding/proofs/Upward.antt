@@ -16,7 +16,7 @@ use lib.Ieee.Order.{round-mono}
 use lib.Ieee.Positive.{positive, through}
 use lib.Ieee.Scale.{finite}
 use Rattle.rounding.proofs.Flooring.{few, coarse, under-top}
-use Rattle.rounding.proofs.Order.{same, of-le, of-eq}
+use Rattle.rounding.proofs.Order.{same, at-most}
 
 abbrev pub Up : Float → Float → Type 0
 Up nan y = ⊥
@@ -32,59 +32,61 @@ Up (fin false m e) (inf false) = Unit
 Up (fin false m e) (fin true n d) = ⊥
 Up (fin false m e) (fin false n d) = m * up e * down d ≤ n * up d * down e
 
+-- ---- the cases: a pair in this order is of three kinds, one such float of two, a finite one above zero of one
+
+by-pair : (P : Float → Float → Type 0) → P (inf false) (inf false) → ((m : ℕ) (e : ℤ) → P (fin false m e) (inf false))
+    → ((m : ℕ) (e : ℤ) (n : ℕ) (d : ℤ) → m * up e * down d ≤ n * up d * down e → P (fin false m e) (fin false n d)) → (x y : Float) → Up x y → P x y
+by-pair P i j k nan y h = absurd h
+by-pair P i j k (inf true) y h = absurd h
+by-pair P i j k (inf false) nan h = absurd h
+by-pair P i j k (inf false) (inf true) h = absurd h
+by-pair P i j k (inf false) (inf false) h = i
+by-pair P i j k (inf false) (fin t n d) h = absurd h
+by-pair P i j k (fin true m e) y h = absurd h
+by-pair P i j k (fin false m e) nan h = absurd h
+by-pair P i j k (fin false m e) (inf true) h = absurd h
+by-pair P i j k (fin false m e) (inf false) h = j m e
+by-pair P i j k (fin false m e) (fin true n d) h = absurd h
+by-pair P i j k (fin false m e) (fin false n d) h = k m e n d h
+
+by-one : (P : Float → Type 0) → P (inf false) → ((m : ℕ) (e : ℤ) → P (fin false m e)) → (x : Float) → Up x x → P x
+by-one P i j nan h = absurd h
+by-one P i j (inf true) h = absurd h
+by-one P i j (inf false) h = i
+by-one P i j (fin true m e) h = absurd h
+by-one P i j (fin false m e) h = j m e
+
+by-two : (P : Float → Float → Type 0) → P (inf false) (inf false) → ((n : ℕ) (d : ℤ) → P (inf false) (fin false n d)) → ((m : ℕ) (e : ℤ) → P (fin false m e) (inf false))
+    → ((m : ℕ) (e : ℤ) (n : ℕ) (d : ℤ) → P (fin false m e) (fin false n d)) → (x y : Float) → Up x x → Up y y → P x y
+by-two P i j k l x y p q = by-one (λ x. P x y) (by-one (λ y. P (inf false) y) i j y q) (λ m e. by-one (λ y. P (fin false m e) y) (k m e) (l m e) y q) x p
+
+by-positive : (P : Float → Type 0) → ((o : ℕ) (g : ℤ) → T (ltb 0 o) → P (fin false o g)) → (c : Float) → T (positive c) → P c
+by-positive P k nan p = absurd p
+by-positive P k (inf t) p = absurd p
+by-positive P k (fin true o g) p = absurd p
+by-positive P k (fin false o g) p = k o g p
+
 -- ---- an order
 
+up-left : (x y : Float) → Up x y → Up x x
+up-left = by-pair (λ x y. Up x x) tt (λ m e. le-refl (m * up e * down e)) (λ m e n d h. le-refl (m * up e * down e))
+
 pub up-right : (x y : Float) → Up x y → Up y y
-up-right nan y h = absurd h
-up-right (inf true) y h = absurd h
-up-right (inf false) nan h = absurd h
-up-right (inf false) (inf true) h = absurd h
-up-right (inf false) (inf false) h = tt
-up-right (inf false) (fin t n d) h = absurd h
-up-right (fin true m e) y h = absurd h
-up-right (fin false m e) nan h = absurd h
-up-right (fin false m e) (inf true) h = absurd h
-up-right (fin false m e) (inf false) h = tt
-up-right (fin false m e) (fin true n d) h = absurd h
-up-right (fin false m e) (fin false n d) h = le-refl (n * up d * down d)
+up-right = by-pair (λ x y. Up y y) tt (λ m e. tt) (λ m e n d h. le-refl (n * up d * down d))
 
 pub up-trans : (x y z : Float) → Up x y → Up y z → Up x z
-up-trans nan y z h k = absurd h
-up-trans (inf true) y z h k = absurd h
-up-trans (inf false) nan z h k = absurd h
-up-trans (inf false) (inf true) z h k = absurd h
-up-trans (inf false) (inf false) z h k = k
-up-trans (inf false) (fin t n d) z h k = absurd h
-up-trans (fin true m e) y z h k = absurd h
-up-trans (fin false m e) nan z h k = absurd h
-up-trans (fin false m e) (inf true) z h k = absurd h
-up-trans (fin false m e) (inf false) nan h k = absurd k
-up-trans (fin false m e) (inf false) (inf true) h k = absurd k
-up-trans (fin false m e) (inf false) (inf false) h k = tt
-up-trans (fin false m e) (inf false) (fin t n d) h k = absurd k
-up-trans (fin false m e) (fin true n d) z h k = absurd h
-up-trans (fin false m e) (fin false n d) nan h k = absurd k
-up-trans (fin false m e) (fin false n d) (inf true) h k = absurd k
-up-trans (fin false m e) (fin false n d) (inf false) h k = tt
-up-trans (fin false m e) (fin false n d) (fin true o g) h k = absurd k
-up-trans (fin false m e) (fin false n d) (fin false o g) h k = through (m * up e) (n * up d) (o * up g) (down e) (down d) (down g) (down-pos d) h k
+up-trans x y z h k =
+    by-pair (λ x y. Up y z → Up x z) (λ k. k)
+    (λ m e k. by-one (λ z. Up (inf false) z → Up (fin false m e) z) (λ k. tt) (λ o g k. absurd k) z (up-right (inf false) z k) k)
+    (λ m e n d h k. by-one (λ z. Up (fin false n d) z → Up (fin false m e) z) (λ k. tt)
+    (λ o g k. through (m * up e) (n * up d) (o * up g) (down e) (down d) (down g) (down-pos d) h k) z (up-right (fin false n d) z k) k)
+    x y h k
 
 -- ---- against the test `<=`
 
 pub le→up : (x y : Float) → Up x x → Up y y → T (le x y) → Up x y
 unfolding le lt
-le→up nan y p q h = absurd p
-le→up (inf true) y p q h = absurd p
-le→up (inf false) nan p q h = absurd q
-le→up (inf false) (inf true) p q h = absurd q
-le→up (inf false) (inf false) p q h = tt
-le→up (inf false) (fin t n d) p q h = absurd h
-le→up (fin true m e) y p q h = absurd p
-le→up (fin false m e) nan p q h = absurd q
-le→up (fin false m e) (inf true) p q h = absurd q
-le→up (fin false m e) (inf false) p q h = tt
-le→up (fin false m e) (fin true n d) p q h = absurd q
-le→up (fin false m e) (fin false n d) p q h = same (m * up e * down d) (n * up d * down e) h
+le→up x y p q = by-two (λ x y. T (le x y) → Up x y) (λ h. tt) (λ n d h. absurd h) (λ m e h. tt) (λ m e n d h. same (m * up e * down d) (n * up d * down e) h) x y p q
 
 -- where the test fails, the order is the other way
 not-le : (a b : ℕ) → (ltb a b || (eqb a b && true)) ≡ false → b ≤ a
@@ -99,34 +101,13 @@ not-le a b = go (ltb a b) (lt→ltb a b)
 
 pub nle→up : (x y : Float) → Up x x → Up y y → le x y ≡ false → Up y x
 unfolding le lt
-nle→up nan y p q h = absurd p
-nle→up (inf true) y p q h = absurd p
-nle→up (inf false) nan p q h = absurd q
-nle→up (inf false) (inf true) p q h = absurd q
-nle→up (inf false) (inf false) p q h = tt
-nle→up (inf false) (fin true n d) p q h = absurd q
-nle→up (inf false) (fin false n d) p q h = tt
-nle→up (fin true m e) y p q h = absurd p
-nle→up (fin false m e) nan p q h = absurd q
-nle→up (fin false m e) (inf true) p q h = absurd q
-nle→up (fin false m e) (inf false) p q h = absurd (true≢false h)
-nle→up (fin false m e) (fin true n d) p q h = absurd q
-nle→up (fin false m e) (fin false n d) p q h = not-le (m * up e * down d) (n * up d * down e) h
+nle→up x y p q =
+    by-two (λ x y. le x y ≡ false → Up y x) (λ h. tt) (λ n d h. tt) (λ m e h. absurd (true≢false h))
+    (λ m e n d h. not-le (m * up e * down d) (n * up d * down e) h) x y p q
 
 pub up→le : (x y : Float) → Up x y → T (le x y)
 unfolding le lt
-up→le nan y h = absurd h
-up→le (inf true) y h = absurd h
-up→le (inf false) nan h = absurd h
-up→le (inf false) (inf true) h = absurd h
-up→le (inf false) (inf false) h = tt
-up→le (inf false) (fin t n d) h = absurd h
-up→le (fin true m e) y h = absurd h
-up→le (fin false m e) nan h = absurd h
-up→le (fin false m e) (inf true) h = absurd h
-up→le (fin false m e) (inf false) h = tt
-up→le (fin false m e) (fin true n d) h = absurd h
-up→le (fin false m e) (fin false n d) h = of-le (m * up e * down d) (n * up d * down e) (ltb (m * up e * down d) (n * up d * down e)) (eqb (m * up e * down d) (n * up d * down e)) (lt→ltb _ _) (of-eq _ _) h
+up→le = by-pair (λ x y. T (le x y)) tt (λ m e. tt) (λ m e n d h. at-most (m * up e * down d) (n * up d * down e) h)
 
 -- ---- rounding keeps it
 
@@ -153,11 +134,7 @@ round-up f a b c d B D h = le→up (round f false a b) (round f false c d) (roun
 -- ---- the operations
 
 below-inf : (x : Float) → Up x x → Up x (inf false)
-below-inf nan h = absurd h
-below-inf (inf true) h = absurd h
-below-inf (inf false) h = tt
-below-inf (fin true m e) h = absurd h
-below-inf (fin false m e) h = tt
+below-inf = by-one (λ x. Up x (inf false)) tt (λ m e. tt)
 
 round-inf : (f : Format) (a b : ℕ) → Up (round f false a b) (inf false)
 round-inf f a b = below-inf (round f false a b) (round-own f a b)
@@ -171,107 +148,38 @@ not-zero n t = ne-eqb n 0 (λ e. lt-irrefl 0 (subst (λ (z : ℕ). 0 < z) e (ltb
 -- a product with a factor that is finite and above zero
 pub mul-up : (f : Format) (x y c : Float) → T (positive c) → Up x y → Up (mul f x c) (mul f y c)
 unfolding mul
-mul-up f nan y c p h = absurd h
-mul-up f (inf true) y c p h = absurd h
-mul-up f (inf false) nan c p h = absurd h
-mul-up f (inf false) (inf true) c p h = absurd h
-mul-up f (inf false) (fin t n d) c p h = absurd h
-mul-up f (fin true m e) y c p h = absurd h
-mul-up f (fin false m e) nan c p h = absurd h
-mul-up f (fin false m e) (inf true) c p h = absurd h
-mul-up f (fin false m e) (fin true n d) c p h = absurd h
-mul-up f (inf false) (inf false) nan p h = absurd p
-mul-up f (inf false) (inf false) (inf t) p h = absurd p
-mul-up f (inf false) (inf false) (fin true o g) p h = absurd p
-mul-up f (inf false) (inf false) (fin false o g) p h = rw (not-zero o p) tt
-mul-up f (fin false m e) (inf false) nan p h = absurd p
-mul-up f (fin false m e) (inf false) (inf t) p h = absurd p
-mul-up f (fin false m e) (inf false) (fin true o g) p h = absurd p
-mul-up f (fin false m e) (inf false) (fin false o g) p h = rw (not-zero o p) (round-inf f (m * up e * (o * up g)) (down e * down g))
-mul-up f (fin false m e) (fin false n d) nan p h = absurd p
-mul-up f (fin false m e) (fin false n d) (inf t) p h = absurd p
-mul-up f (fin false m e) (fin false n d) (fin true o g) p h = absurd p
-mul-up f (fin false m e) (fin false n d) (fin false o g) p h =
-    round-up f (m * up e * (o * up g)) (down e * down g) (n * up d * (o * up g)) (down d * down g) (mul-pos (down-pos e) (down-pos g)) (mul-pos (down-pos d) (down-pos g))
-    (scaled (m * up e) (down e) (n * up d) (down d) (o * up g) (down g) h)
+mul-up f x y c p h =
+    by-positive (λ c. Up (mul f x c) (mul f y c))
+    (λ o g p. by-pair (λ x y. Up (mul f x (fin false o g)) (mul f y (fin false o g))) (rw (not-zero o p) tt)
+    (λ m e. rw (not-zero o p) (round-inf f (m * up e * (o * up g)) (down e * down g)))
+    (λ m e n d h. round-up f (m * up e * (o * up g)) (down e * down g) (n * up d * (o * up g)) (down d * down g) (mul-pos (down-pos e) (down-pos g)) (mul-pos (down-pos d) (down-pos g))
+    (scaled (m * up e) (down e) (n * up d) (down d) (o * up g) (down g) h)) x y h) c p
 
 -- a quotient by a divisor that is finite and above zero
 pub div-up : (f : Format) (x y c : Float) → T (positive c) → Up x y → Up (div f x c) (div f y c)
 unfolding div
-div-up f nan y c p h = absurd h
-div-up f (inf true) y c p h = absurd h
-div-up f (inf false) nan c p h = absurd h
-div-up f (inf false) (inf true) c p h = absurd h
-div-up f (inf false) (fin t n d) c p h = absurd h
-div-up f (fin true m e) y c p h = absurd h
-div-up f (fin false m e) nan c p h = absurd h
-div-up f (fin false m e) (inf true) c p h = absurd h
-div-up f (fin false m e) (fin true n d) c p h = absurd h
-div-up f (inf false) (inf false) nan p h = absurd p
-div-up f (inf false) (inf false) (inf t) p h = absurd p
-div-up f (inf false) (inf false) (fin true o g) p h = absurd p
-div-up f (inf false) (inf false) (fin false o g) p h = tt
-div-up f (fin false m e) (inf false) nan p h = absurd p
-div-up f (fin false m e) (inf false) (inf t) p h = absurd p
-div-up f (fin false m e) (inf false) (fin true o g) p h = absurd p
-div-up f (fin false m e) (inf false) (fin false o g) p h = rw (not-zero o p) (round-inf f (m * up e * down g) (o * up g * down e))
-div-up f (fin false m e) (fin false n d) nan p h = absurd p
-div-up f (fin false m e) (fin false n d) (inf t) p h = absurd p
-div-up f (fin false m e) (fin false n d) (fin true o g) p h = absurd p
-div-up f (fin false m e) (fin false n d) (fin false o g) p h =
-    rw (not-zero o p)
-    (round-up f (m * up e * down g) (o * up g * down e) (n * up d * down g) (o * up g * down d) (mul-pos (mul-pos (ltb→lt 0 o p) (up-pos g)) (down-pos e)) (mul-pos (mul-pos (ltb→lt 0 o p) (up-pos g)) (down-pos d))
+div-up f x y c p h =
+    by-positive (λ c. Up (div f x c) (div f y c))
+    (λ o g p. by-pair (λ x y. Up (div f x (fin false o g)) (div f y (fin false o g))) tt
+    (λ m e. rw (not-zero o p) (round-inf f (m * up e * down g) (o * up g * down e)))
+    (λ m e n d h. rw (not-zero o p)
+    (round-up f (m * up e * down g) (o * up g * down e) (n * up d * down g) (o * up g * down d)
+    (mul-pos (mul-pos (ltb→lt 0 o p) (up-pos g)) (down-pos e)) (mul-pos (mul-pos (ltb→lt 0 o p) (up-pos g)) (down-pos d))
     (le-trans (le-of-eq (ap (λ (z : ℕ). m * up e * down g * z) (mul-comm (o * up g) (down d))))
-    (le-trans (scaled (m * up e) (down e) (n * up d) (down d) (down g) (o * up g) h) (le-of-eq (ap (λ (z : ℕ). n * up d * down g * z) (mul-comm (down e) (o * up g)))))))
+    (le-trans (scaled (m * up e) (down e) (n * up d) (down d) (down g) (o * up g) h) (le-of-eq (ap (λ (z : ℕ). n * up d * down g * z) (mul-comm (down e) (o * up g))))))))
+    x y h) c p
 
 -- a sum
 pub add-up : (f : Format) (x x' y y' : Float) → Up x x' → Up y y' → Up (add f x y) (add f x' y')
 unfolding add sum
-add-up f nan x' y y' h k = absurd h
-add-up f (inf true) x' y y' h k = absurd h
-add-up f (inf false) nan y y' h k = absurd h
-add-up f (inf false) (inf true) y y' h k = absurd h
-add-up f (inf false) (fin t n d) y y' h k = absurd h
-add-up f (fin true m e) x' y y' h k = absurd h
-add-up f (fin false m e) nan y y' h k = absurd h
-add-up f (fin false m e) (inf true) y y' h k = absurd h
-add-up f (fin false m e) (fin true n d) y y' h k = absurd h
-add-up f (inf false) (inf false) nan y' h k = absurd k
-add-up f (inf false) (inf false) (inf true) y' h k = absurd k
-add-up f (inf false) (inf false) (inf false) nan h k = absurd k
-add-up f (inf false) (inf false) (inf false) (inf true) h k = absurd k
-add-up f (inf false) (inf false) (inf false) (inf false) h k = tt
-add-up f (inf false) (inf false) (inf false) (fin t o g) h k = absurd k
-add-up f (inf false) (inf false) (fin true a b) y' h k = absurd k
-add-up f (inf false) (inf false) (fin false a b) nan h k = absurd k
-add-up f (inf false) (inf false) (fin false a b) (inf true) h k = absurd k
-add-up f (inf false) (inf false) (fin false a b) (inf false) h k = tt
-add-up f (inf false) (inf false) (fin false a b) (fin t o g) h k = tt
-add-up f (fin false m e) (inf false) nan y' h k = absurd k
-add-up f (fin false m e) (inf false) (inf true) y' h k = absurd k
-add-up f (fin false m e) (inf false) (inf false) nan h k = absurd k
-add-up f (fin false m e) (inf false) (inf false) (inf true) h k = absurd k
-add-up f (fin false m e) (inf false) (inf false) (inf false) h k = tt
-add-up f (fin false m e) (inf false) (inf false) (fin t o g) h k = absurd k
-add-up f (fin false m e) (inf false) (fin true a b) y' h k = absurd k
-add-up f (fin false m e) (inf false) (fin false a b) nan h k = absurd k
-add-up f (fin false m e) (inf false) (fin false a b) (inf true) h k = absurd k
-add-up f (fin false m e) (inf false) (fin false a b) (inf false) h k = round-inf f _ _
-add-up f (fin false m e) (inf false) (fin false a b) (fin t o g) h k = round-inf f _ _
-add-up f (fin false m e) (fin false n d) nan y' h k = absurd k
-add-up f (fin false m e) (fin false n d) (inf true) y' h k = absurd k
-add-up f (fin false m e) (fin false n d) (inf false) nan h k = absurd k
-add-up f (fin false m e) (fin false n d) (inf false) (inf true) h k = absurd k
-add-up f (fin false m e) (fin false n d) (inf false) (inf false) h k = tt
-add-up f (fin false m e) (fin false n d) (inf false) (fin t o g) h k = absurd k
-add-up f (fin false m e) (fin false n d) (fin true a b) y' h k = absurd k
-add-up f (fin false m e) (fin false n d) (fin false a b) nan h k = absurd k
-add-up f (fin false m e) (fin false n d) (fin false a b) (inf true) h k = absurd k
-add-up f (fin false m e) (fin false n d) (fin false a b) (inf false) h k = round-inf f _ _
-add-up f (fin false m e) (fin false n d) (fin false a b) (fin true o g) h k = absurd k
-add-up f (fin false m e) (fin false n d) (fin false a b) (fin false o g) h k =
-    round-up f (m * up e * down b + a * up b * down e) (down e * down b) (n * up d * down g + o * up g * down d) (down d * down g) (mul-pos (down-pos e) (down-pos b)) (mul-pos (down-pos d) (down-pos g))
-    (sums (m * up e) (down e) (n * up d) (down d) (a * up b) (down b) (o * up g) (down g) h k)
+add-up f x x' y y' h k =
+    by-pair (λ x x'. Up (add f x y) (add f x' y'))
+    (by-pair (λ y y'. Up (add f (inf false) y) (add f (inf false) y')) tt (λ a b. tt) (λ a b o g k. tt) y y' k)
+    (λ m e. by-pair (λ y y'. Up (add f (fin false m e) y) (add f (inf false) y')) tt (λ a b. round-inf f _ _) (λ a b o g k. round-inf f _ _) y y' k)
+    (λ m e n d h. by-pair (λ y y'. Up (add f (fin false m e) y) (add f (fin false n d) y')) tt (λ a b. round-inf f _ _)
+    (λ a b o g k. round-up f (m * up e * down b + a * up b * down e) (down e * down b) (n * up d * down g + o * up g * down d) (down d * down g)
+    (mul-pos (down-pos e) (down-pos b)) (mul-pos (down-pos d) (down-pos g)) (sums (m * up e) (down e) (n * up d) (down d) (a * up b) (down b) (o * up g) (down g) h k))
+    y y' k) x x' h
   where
     -- x / p + y / q ≤ x' / p' + y' / q'
     sums : (x p x' p' y q y' q' : ℕ) → x * p' ≤ x' * p → y * q' ≤ y' * q → (x * q + y * p) * (p' * q') ≤ (x' * q' + y' * p') * (p * q)
@@ -322,11 +230,7 @@ up-value m e (fin true n d) h = absurd (true≢false (h .0))
 up-value m e (fin false n d) h = le-of-eq (sym (h .1))
 
 pub from-zero : (e : ℤ) (y : Float) → Up y y → Up (fin false zero e) y
-from-zero e nan h = absurd h
-from-zero e (inf true) h = absurd h
-from-zero e (inf false) h = tt
-from-zero e (fin true n d) h = absurd h
-from-zero e (fin false n d) h = go (up e) (down d) (n * up d * down e)
+from-zero e = by-one (λ y. Up (fin false zero e) y) tt (λ n d. go (up e) (down d) (n * up d * down e))
   where
     go : (a b c : ℕ) → 0 * a * b ≤ c
     go a b c = omega arith
@@ -337,21 +241,13 @@ round-self f (suc m) e F = up-value (suc m) e (round f false (suc m * up e) (dow
 
 pub add-more : (f : Format) (x y : Float) → T (fits f x) → Up x x → Up y y → Up x (add f x y)
 unfolding add sum
-add-more f nan y F h k = absurd h
-add-more f (inf true) y F h k = absurd h
-add-more f (inf false) nan F h k = absurd k
-add-more f (inf false) (inf true) F h k = absurd k
-add-more f (inf false) (inf false) F h k = tt
-add-more f (inf false) (fin t n d) F h k = tt
-add-more f (fin true m e) y F h k = absurd h
-add-more f (fin false m e) nan F h k = absurd k
-add-more f (fin false m e) (inf true) F h k = absurd k
-add-more f (fin false m e) (inf false) F h k = tt
-add-more f (fin false m e) (fin true n d) F h k = absurd k
-add-more f (fin false m e) (fin false n d) F h k =
-    up-trans (fin false m e) (round f false (m * up e) (down e)) (round f false (m * up e * down d + n * up d * down e) (down e * down d)) (round-self f m e F)
+add-more f x y F h k =
+    by-two (λ x y. T (fits f x) → Up x (add f x y)) (λ F. tt) (λ n d F. tt) (λ m e F. tt)
+    (λ m e n d F. up-trans (fin false m e) (round f false (m * up e) (down e)) (round f false (m * up e * down d + n * up d * down e) (down e * down d)) (round-self f m e F)
     (round-up f (m * up e) (down e) (m * up e * down d + n * up d * down e) (down e * down d) (down-pos e) (mul-pos (down-pos e) (down-pos d))
-    (le-trans (le-of-eq (ap (λ (z : ℕ). m * up e * z) (mul-comm (down e) (down d)) ∙ sym (mul-assoc (m * up e) (down d) (down e)))) (mul-le-mul-right (down e) (more (m * up e * down d) (n * up d * down e)))))
+    (le-trans (le-of-eq (ap (λ (z : ℕ). m * up e * z) (mul-comm (down e) (down d)) ∙ sym (mul-assoc (m * up e) (down d) (down e))))
+    (mul-le-mul-right (down e) (more (m * up e * down d) (n * up d * down e))))))
+    x y h k F
   where
     more : (a b : ℕ) → a ≤ a + b
     more a b = omega arith
@@ -383,19 +279,10 @@ grow X dx Y dy Z dz h =
     less p q r s e h = omega arith
 
 pub sub-up : (f : Format) (x y z : Float) → T (finite z) → Up y x → Up x z → Up (sub f x y) (sub f z y)
-sub-up f x y nan F h k = absurd F
-sub-up f x y (inf t) F h k = absurd F
-sub-up f nan y (fin t n d) F h k = absurd k
-sub-up f (inf true) y (fin t n d) F h k = absurd k
-sub-up f (inf false) y (fin t n d) F h k = absurd k
-sub-up f (fin true m e) y (fin t n d) F h k = absurd k
-sub-up f (fin false m e) y (fin true n d) F h k = absurd k
-sub-up f (fin false m e) nan (fin false n d) F h k = absurd h
-sub-up f (fin false m e) (inf true) (fin false n d) F h k = absurd h
-sub-up f (fin false m e) (inf false) (fin false n d) F h k = absurd h
-sub-up f (fin false m e) (fin true o g) (fin false n d) F h k = absurd h
-sub-up f (fin false m e) (fin false o g) (fin false n d) F h k =
-    subst (λ (z : Float). Up z (sub f (fin false n d) (fin false o g))) (sym (sub-is f m e o g h))
+sub-up f x y z F h k =
+    by-pair (λ x z. T (finite z) → Up y x → Up (sub f x y) (sub f z y)) (λ F h. absurd F) (λ m e F h. absurd F)
+    (λ m e n d k F h. by-one (λ y. Up y (fin false m e) → Up (sub f (fin false m e) y) (sub f (fin false n d) y)) (λ h. absurd h)
+    (λ o g h. subst (λ (z : Float). Up z (sub f (fin false n d) (fin false o g))) (sym (sub-is f m e o g h))
     (subst (λ (z : Float). Up (round f false (m * up e * down g - o * up g * down e) (down e * down g)) z) (sym (sub-is f n d o g (up-trans (fin false o g) (fin false m e) (fin false n d) h k)))
     (round-up f (m * up e * down g - o * up g * down e) (down e * down g) (n * up d * down g - o * up g * down d) (down d * down g) (mul-pos (down-pos e) (down-pos g)) (mul-pos (down-pos d) (down-pos g))
-    (grow (m * up e) (down e) (o * up g) (down g) (n * up d) (down d) k)))
+    (grow (m * up e) (down e) (o * up g) (down g) (n * up d) (down d) k)))) y (up-left y (fin false m e) h) h) x z k F h
