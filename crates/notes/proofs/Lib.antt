@@ -8,6 +8,5 @@ pub mod Merging
 pub mod Choosing
 pub mod Inserting
 pub mod Quarters
-pub mod FourParts
 pub mod Whole
 pub mod Laws
