@@ -11,7 +11,7 @@ use Rattle.text.proofs.Laws.{behind, retext}
 use Rattle.form_text.proofs.Digits.{no-digits, more-digits, digits-length}
 use Rattle.form_text.proofs.tempos.last_digits.Reads as digits
 use Rattle.form_text.proofs.tempos.last_digits.Kinds as digits-kinds
-use Rattle.form_text.proofs.tempos.+last_digits.Lts-last_digits as digits-lts
+use Rattle.form_text.proofs.tempos.+last_digits.Lts-last_digits as lts
 use Rattle.form_text.proofs.tempos.digit_byte.Reads as byte-of
 use Rattle.text.proofs.put.byte.Reads as byte-reads
 use Rattle.form_text.proofs.tempos.+last_digits.{statement}
@@ -26,97 +26,37 @@ digits-at t = and 1 digits-kinds.ps (is 1 digits-kinds.ps μ-digits t) digits.Pr
 abbrev digits-below : ℕ → In 1 digits-kinds.ps
 digits-below t = and 1 digits-kinds.ps (falls 1 digits-kinds.ps _<_ μ-digits t) digits.Pre
 
-returns : (t : ℕ) → digits-lts.Need-returns (
-  digits-below t,
-  digits.Post,
-  byte-of.Asked,
-  byte-of.Learnt,
-  byte-reads.Asked,
-  byte-reads.Learnt,
-) (digits-at t) digits.Post
+abbrev calls : ℕ → lts.Claims
+calls t = (digits-below t, digits.Post, byte-of.Asked, byte-of.Learnt, byte-reads.Asked, byte-reads.Learnt)
+
+returns : (t : ℕ) → lts.Need-returns (calls t) (digits-at t) digits.Post
 returns t c = no-digits _ _ _ _ _ (c .if1 .taken)
 
-sub-last-digits : (t : ℕ) → digits-lts.Need-sub-last-digits (
-  digits-below t,
-  digits.Post,
-  byte-of.Asked,
-  byte-of.Learnt,
-  byte-reads.Asked,
-  byte-reads.Learnt,
-) (digits-at t) digits.Post
+sub-last-digits : (t : ℕ) → lts.Need-sub-last-digits (calls t) (digits-at t) digits.Post
 sub-last-digits t c = search needs
 
-div-last-digits : (t : ℕ) → digits-lts.Need-div-last-digits (
-  digits-below t,
-  digits.Post,
-  byte-of.Asked,
-  byte-of.Learnt,
-  byte-reads.Asked,
-  byte-reads.Learnt,
-) (digits-at t) digits.Post
+div-last-digits : (t : ℕ) → lts.Need-div-last-digits (calls t) (digits-at t) digits.Post
 div-last-digits t c = let s = c .before .before .before in omega (arith, s .pre .1)
 
-last-digits-requires : (t : ℕ) → digits-lts.Need-last-digits-requires (
-  digits-below t,
-  digits.Post,
-  byte-of.Asked,
-  byte-of.Learnt,
-  byte-reads.Asked,
-  byte-reads.Learnt,
-) (digits-at t) digits.Post
+last-digits-requires : (t : ℕ) → lts.Need-last-digits-requires (calls t) (digits-at t) digits.Post
 last-digits-requires t c κs = (omega arith, (omega arith, omega arith, omega arith))
 
-rem-digit-byte : (t : ℕ) → digits-lts.Need-rem-digit-byte (
-  digits-below t,
-  digits.Post,
-  byte-of.Asked,
-  byte-of.Learnt,
-  byte-reads.Asked,
-  byte-reads.Learnt,
-) (digits-at t) digits.Post
+rem-digit-byte : (t : ℕ) → lts.Need-rem-digit-byte (calls t) (digits-at t) digits.Post
 rem-digit-byte t c = let s = c .before .before .before .before .before .before .before in omega (arith, s .pre .1)
 
-digit-byte-requires : (t : ℕ) → digits-lts.Need-digit-byte-requires (
-  digits-below t,
-  digits.Post,
-  byte-of.Asked,
-  byte-of.Learnt,
-  byte-reads.Asked,
-  byte-reads.Learnt,
-) (digits-at t) digits.Post
+digit-byte-requires : (t : ℕ) → lts.Need-digit-byte-requires (calls t) (digits-at t) digits.Post
 digit-byte-requires t c κs = let a = c .before .before .before .before .before .before .before .args in let some : 0 < a .base = omega arith in omega (arith, mod-lt (a .n) some)
 
-byte-requires : (t : ℕ) → digits-lts.Need-byte-requires (
-  digits-below t,
-  digits.Post,
-  byte-of.Asked,
-  byte-of.Learnt,
-  byte-reads.Asked,
-  byte-reads.Learnt,
-) (digits-at t) digits.Post
+byte-requires : (t : ℕ) → lts.Need-byte-requires (calls t) (digits-at t) digits.Post
 byte-requires t c κs =
     let front = c .before .before .before .before in
     let a = front .before .before .before .before .args in
     omega (arith, digits-length (a .base) (a .count - 1) (a .n / a .base), front .last-digits .ensures .next-is)
 
-same-length : (t : ℕ) → digits-lts.Need-same-length (
-  digits-below t,
-  digits.Post,
-  byte-of.Asked,
-  byte-of.Learnt,
-  byte-reads.Asked,
-  byte-reads.Learnt,
-) (digits-at t) digits.Post
+same-length : (t : ℕ) → lts.Need-same-length (calls t) (digits-at t) digits.Post
 same-length t c = search needs
 
-returns-2 : (t : ℕ) → digits-lts.Need-returns-2 (
-  digits-below t,
-  digits.Post,
-  byte-of.Asked,
-  byte-of.Learnt,
-  byte-reads.Asked,
-  byte-reads.Learnt,
-) (digits-at t) digits.Post
+returns-2 : (t : ℕ) → lts.Need-returns-2 (calls t) (digits-at t) digits.Post
 returns-2 t c =
     let last = c .before .before in
     let front = c .before .before .before .before .before .before .before in
@@ -127,14 +67,7 @@ returns-2 t c =
     retext (more-digits (a .base) (a .n) (a .count) (omega arith)) (behind (omega arith) (front .last-digits .ensures) put)
 
 pub +last-digits-spec : {M : Type 1} → statement M
-+last-digits-spec = close μ-digits λ t. digits-lts.spec (
-  digits-below t,
-  digits.Post,
-  byte-of.Asked,
-  byte-of.Learnt,
-  byte-reads.Asked,
-  byte-reads.Learnt,
-)
++last-digits-spec = close μ-digits λ t. lts.spec (calls t)
     (digits-at t)
     digits.Post
     (returns t)

@@ -11,7 +11,7 @@ use borrow.Fn.Kinds.{In}
 use borrow.Fn.PlainCycle.{Measures, is, falls, and}
 use Rattle.text.proofs.put.decimal.Reads as decimal
 use Rattle.text.proofs.put.decimal.Kinds as decimal-kinds
-use Rattle.text.proofs.put.+decimal.Lts-decimal as decimal-lts
+use Rattle.text.proofs.put.+decimal.Lts-decimal as lts
 use Rattle.text.proofs.put.byte.Reads as byte-reads
 use Rattle.text.proofs.put.+decimal.{statement}
 use Rattle.text.proofs.put.+decimal.Tie.{close}
@@ -25,97 +25,45 @@ decimal-at t = and 1 decimal-kinds.ps (is 1 decimal-kinds.ps μ-decimal t) decim
 abbrev decimal-below : ℕ → In 1 decimal-kinds.ps
 decimal-below t = and 1 decimal-kinds.ps (falls 1 decimal-kinds.ps _<_ μ-decimal t) decimal.Pre
 
-decimal-add-byte : (t : ℕ) → decimal-lts.Need-add-byte (
-  byte-reads.Asked,
-  byte-reads.Learnt,
-  decimal-below t,
-  decimal.Post,
-) (decimal-at t) decimal.Post
-decimal-add-byte t c = search needs
+abbrev calls : ℕ → lts.Claims
+calls t = (byte-reads.Asked, byte-reads.Learnt, decimal-below t, decimal.Post)
 
-decimal-cast-byte : (t : ℕ) → decimal-lts.Need-cast-byte (
-  byte-reads.Asked,
-  byte-reads.Learnt,
-  decimal-below t,
-  decimal.Post,
-) (decimal-at t) decimal.Post
-decimal-cast-byte t c = search needs
+add-byte : (t : ℕ) → lts.Need-add-byte (calls t) (decimal-at t) decimal.Post
+add-byte t c = search needs
 
-decimal-byte-requires : (t : ℕ) → decimal-lts.Need-byte-requires (
-  byte-reads.Asked,
-  byte-reads.Learnt,
-  decimal-below t,
-  decimal.Post,
-) (decimal-at t) decimal.Post
-decimal-byte-requires t c κs = omega (arith, digit-length (c .before .before .before .args .n) (c .before .if1 .taken))
+cast-byte : (t : ℕ) → lts.Need-cast-byte (calls t) (decimal-at t) decimal.Post
+cast-byte t c = search needs
 
-decimal-same-length : (t : ℕ) → decimal-lts.Need-same-length (
-  byte-reads.Asked,
-  byte-reads.Learnt,
-  decimal-below t,
-  decimal.Post,
-) (decimal-at t) decimal.Post
-decimal-same-length t c = search needs
+byte-requires : (t : ℕ) → lts.Need-byte-requires (calls t) (decimal-at t) decimal.Post
+byte-requires t c κs = omega (arith, digit-length (c .before .before .before .args .n) (c .before .if1 .taken))
 
-decimal-returns : (t : ℕ) → decimal-lts.Need-returns (
-  byte-reads.Asked,
-  byte-reads.Learnt,
-  decimal-below t,
-  decimal.Post,
-) (decimal-at t) decimal.Post
-decimal-returns t c =
+same-length : (t : ℕ) → lts.Need-same-length (calls t) (decimal-at t) decimal.Post
+same-length t c = search needs
+
+returns : (t : ℕ) → lts.Need-returns (calls t) (decimal-at t) decimal.Post
+returns t c =
     let test = c .before .before .before .before in
     retext (sym (digit (test .before .before .args .n) (test .if1 .taken))) (c .before .before .byte .ensures)
 
-decimal-decimal-requires : (t : ℕ) → decimal-lts.Need-decimal-requires (
-  byte-reads.Asked,
-  byte-reads.Learnt,
-  decimal-below t,
-  decimal.Post,
-) (decimal-at t) decimal.Post
-decimal-decimal-requires t c κs = (omega arith, omega (arith, digits-length (c .before .before .before .args .n) (c .before .if1 .left)))
+decimal-requires : (t : ℕ) → lts.Need-decimal-requires (calls t) (decimal-at t) decimal.Post
+decimal-requires t c κs = (omega arith, omega (arith, digits-length (c .before .before .before .args .n) (c .before .if1 .left)))
 
-decimal-add-byte-2 : (t : ℕ) → decimal-lts.Need-add-byte-2 (
-  byte-reads.Asked,
-  byte-reads.Learnt,
-  decimal-below t,
-  decimal.Post,
-) (decimal-at t) decimal.Post
-decimal-add-byte-2 t c = search needs
+add-byte-2 : (t : ℕ) → lts.Need-add-byte-2 (calls t) (decimal-at t) decimal.Post
+add-byte-2 t c = search needs
 
-decimal-cast-byte-2 : (t : ℕ) → decimal-lts.Need-cast-byte-2 (
-  byte-reads.Asked,
-  byte-reads.Learnt,
-  decimal-below t,
-  decimal.Post,
-) (decimal-at t) decimal.Post
-decimal-cast-byte-2 t c = search needs
+cast-byte-2 : (t : ℕ) → lts.Need-cast-byte-2 (calls t) (decimal-at t) decimal.Post
+cast-byte-2 t c = search needs
 
-decimal-byte-requires-2 : (t : ℕ) → decimal-lts.Need-byte-requires-2 (
-  byte-reads.Asked,
-  byte-reads.Learnt,
-  decimal-below t,
-  decimal.Post,
-) (decimal-at t) decimal.Post
-decimal-byte-requires-2 t c κs =
+byte-requires-2 : (t : ℕ) → lts.Need-byte-requires-2 (calls t) (decimal-at t) decimal.Post
+byte-requires-2 t c κs =
     let test = c .before .before .before .before .before in
     omega (arith, digits-length (test .before .before .args .n) (test .if1 .left))
 
-decimal-same-length-2 : (t : ℕ) → decimal-lts.Need-same-length-2 (
-  byte-reads.Asked,
-  byte-reads.Learnt,
-  decimal-below t,
-  decimal.Post,
-) (decimal-at t) decimal.Post
-decimal-same-length-2 t c = search needs
+same-length-2 : (t : ℕ) → lts.Need-same-length-2 (calls t) (decimal-at t) decimal.Post
+same-length-2 t c = search needs
 
-decimal-returns-2 : (t : ℕ) → decimal-lts.Need-returns-2 (
-  byte-reads.Asked,
-  byte-reads.Learnt,
-  decimal-below t,
-  decimal.Post,
-) (decimal-at t) decimal.Post
-decimal-returns-2 t c =
+returns-2 : (t : ℕ) → lts.Need-returns-2 (calls t) (decimal-at t) decimal.Post
+returns-2 t c =
     let first = c .before .before .before .before .before .before in
     let a = first .before .before .before .before .args in
     let more = first .before .before .if1 .left in
@@ -123,22 +71,17 @@ decimal-returns-2 t c =
     retext (sym (more-digits (a .n) more)) (then room (first .decimal .ensures) (c .before .before .byte2 .ensures))
 
 pub +decimal-spec : {M : Type 1} → statement M
-+decimal-spec = close μ-decimal λ t. decimal-lts.spec (
-  byte-reads.Asked,
-  byte-reads.Learnt,
-  decimal-below t,
-  decimal.Post,
-)
++decimal-spec = close μ-decimal λ t. lts.spec (calls t)
     (decimal-at t)
     decimal.Post
-    (decimal-add-byte t)
-    (decimal-cast-byte t)
-    (decimal-byte-requires t)
-    (decimal-same-length t)
-    (decimal-returns t)
-    (decimal-decimal-requires t)
-    (decimal-add-byte-2 t)
-    (decimal-cast-byte-2 t)
-    (decimal-byte-requires-2 t)
-    (decimal-same-length-2 t)
-    (decimal-returns-2 t)
+    (add-byte t)
+    (cast-byte t)
+    (byte-requires t)
+    (same-length t)
+    (returns t)
+    (decimal-requires t)
+    (add-byte-2 t)
+    (cast-byte-2 t)
+    (byte-requires-2 t)
+    (same-length-2 t)
+    (returns-2 t)
