@@ -1,11 +1,8 @@
 -- By how many words stand behind the key.
-use mathlib.Core.Path.{sym, ap, _∙_, subst}
 use native.Mathlib.Omega.{arith}
 use borrow.Author.Needs.{needs}
-use lib.ListN.{length}
 use Rattle.items.specs.Items.{meterItem}
-use Rattle.splits.specs.Readings.{readFound, Within}
-use Rattle.splits.specs.declared.found.Found.{Found}
+use Rattle.splits.specs.Readings.{readFound}
 use Rattle.items.proofs.keys.meter.Statement.{statement}
 use Rattle.items.proofs.keys.meter.Tie as tie
 
@@ -13,34 +10,22 @@ enum-known-behind : tie.Need-enum-known-behind
 enum-known-behind c = search needs
 
 sub-meter-point : tie.Need-sub-meter-point
-sub-meter-point c =
-    let inside = subst (λ (f : Found). Within (length (c .before .before .before .before .args .line .now)) f) (c .before .behind .given .1)
-    (c .before .before .before .before .pre) in omega (arith, inside)
+sub-meter-point c = omega (arith, rw (c .before .behind .given .1) at (c .before .before .before .before .pre))
 
 part-meter-point-start : tie.Need-part-meter-point-start
-part-meter-point-start c =
-    let inside = subst (λ (f : Found). Within (length (c .before .before .before .before .args .line .now)) f) (c .before .behind .given .1)
-    (c .before .before .before .before .pre) in omega (arith, inside)
+part-meter-point-start c = omega (arith, rw (c .before .behind .given .1) at (c .before .before .before .before .pre))
 
 part-meter-point-end : tie.Need-part-meter-point-end
-part-meter-point-end c =
-    let inside = subst (λ (f : Found). Within (length (c .before .before .before .before .args .line .now)) f) (c .before .behind .given .1)
-    (c .before .before .before .before .pre) in omega (arith, inside)
+part-meter-point-end c = omega (arith, rw (c .before .behind .given .1) at (c .before .before .before .before .pre))
 
 sub-meter-point-2 : tie.Need-sub-meter-point-2
-sub-meter-point-2 c =
-    let inside = subst (λ (f : Found). Within (length (c .before .before .before .before .before .args .line .now)) f)
-    (c .before .before .behind .given .1) (c .before .before .before .before .before .pre) in omega (arith, inside)
+sub-meter-point-2 c = omega (arith, rw (c .before .before .behind .given .1) at (c .before .before .before .before .before .pre))
 
 part-meter-point-start-2 : tie.Need-part-meter-point-start-2
-part-meter-point-start-2 c =
-    let inside = subst (λ (f : Found). Within (length (c .before .before .before .before .before .args .line .now)) f)
-    (c .before .before .behind .given .1) (c .before .before .before .before .before .pre) in omega (arith, inside)
+part-meter-point-start-2 c = omega (arith, rw (c .before .before .behind .given .1) at (c .before .before .before .before .before .pre))
 
 part-meter-point-end-2 : tie.Need-part-meter-point-end-2
-part-meter-point-end-2 c =
-    let inside = subst (λ (f : Found). Within (length (c .before .before .before .before .before .args .line .now)) f)
-    (c .before .before .behind .given .1) (c .before .before .before .before .before .pre) in omega (arith, inside)
+part-meter-point-end-2 c = omega (arith, rw (c .before .before .behind .given .1) at (c .before .before .before .before .before .pre))
 
 meter-point-requires : tie.Need-meter-point-requires
 meter-point-requires c κs = search needs
@@ -53,17 +38,15 @@ enum-told-2 c = search needs
 
 returns : tie.Need-returns
 unfolding meterItem readFound
-returns c =
-    c .meter-point .ensures ∙ ap (λ (f : Found). meterItem (readFound (c .before .before .before .before .before .before .before .args .line .now) f))
-    (sym (c .before .before .before .before .behind .given .1))
+returns c = rw (c .before .before .before .before .behind .given .1) (c .meter-point .ensures)
 
 returns-2 : tie.Need-returns-2
 unfolding meterItem readFound
-returns-2 c = ap (λ (f : Found). meterItem (readFound (c .before .before .before .args .line .now) f)) (sym (c .enum-told .given .1))
+returns-2 c = rw (c .enum-told .given .1)
 
 returns-3 : tie.Need-returns-3
 unfolding meterItem readFound
-returns-3 c = ap (λ (f : Found). meterItem (readFound (c .before .before .before .args .line .now) f)) (sym (c .enum-told2 .given .1))
+returns-3 c = rw (c .enum-told2 .given .1)
 
 pub meter-spec : {M : Type 1} → statement M
 meter-spec =

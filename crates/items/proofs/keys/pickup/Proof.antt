@@ -1,11 +1,9 @@
 -- By how many words stand behind the key, and by what the one says.
-use mathlib.Core.Path.{sym, ap, _∙_, subst}
+use mathlib.Core.Path.{sym, ap, _∙_}
 use native.Mathlib.Omega.{arith}
 use borrow.Author.Needs.{needs}
-use lib.ListN.{length}
 use Rattle.items.specs.Items.{pickupItem, pickupBy}
-use Rattle.splits.specs.Readings.{readFound, Within}
-use Rattle.splits.specs.declared.found.Found.{Found}
+use Rattle.splits.specs.Readings.{readFound}
 use Rattle.items.proofs.keys.pickup.Statement.{statement}
 use Rattle.items.proofs.keys.pickup.Tie as tie
 
@@ -13,19 +11,13 @@ enum-known-behind : tie.Need-enum-known-behind
 enum-known-behind c = search needs
 
 sub-beat : tie.Need-sub-beat
-sub-beat c =
-    let inside = subst (λ (f : Found). Within (length (c .before .before .before .before .args .line .now)) f) (c .before .behind .given .1)
-    (c .before .before .before .before .pre) in omega (arith, inside)
+sub-beat c = omega (arith, rw (c .before .behind .given .1) at (c .before .before .before .before .pre))
 
 part-beat-start : tie.Need-part-beat-start
-part-beat-start c =
-    let inside = subst (λ (f : Found). Within (length (c .before .before .before .before .args .line .now)) f) (c .before .behind .given .1)
-    (c .before .before .before .before .pre) in omega (arith, inside)
+part-beat-start c = omega (arith, rw (c .before .behind .given .1) at (c .before .before .before .before .pre))
 
 part-beat-end : tie.Need-part-beat-end
-part-beat-end c =
-    let inside = subst (λ (f : Found). Within (length (c .before .before .before .before .args .line .now)) f) (c .before .behind .given .1)
-    (c .before .before .before .before .pre) in omega (arith, inside)
+part-beat-end c = omega (arith, rw (c .before .behind .given .1) at (c .before .before .before .before .pre))
 
 beat-requires : tie.Need-beat-requires
 beat-requires c κs = search needs
@@ -44,25 +36,19 @@ enum-told-2 c = search needs
 
 returns : tie.Need-returns
 unfolding pickupItem pickupBy readFound
-returns c =
-    ap pickupBy (sym (c .before .reason .given .1) ∙ c .before .before .before .beat .ensures) ∙ ap (λ (f : Found). pickupItem (readFound
-    (c .before .before .before .before .before .before .before .before .before .args .line .now) f)) (sym
-    (c .before .before .before .before .before .before .behind .given .1))
+returns c = rw (c .before .before .before .before .before .before .behind .given .1) (ap pickupBy (sym (c .before .reason .given .1) ∙ c .before .before .before .beat .ensures))
 
 returns-2 : tie.Need-returns-2
 unfolding pickupItem pickupBy readFound
-returns-2 c =
-    ap pickupBy (sym (c .before .beat2 .given .1) ∙ c .before .before .before .beat .ensures) ∙ ap (λ (f : Found). pickupItem (readFound
-    (c .before .before .before .before .before .before .before .before .before .args .line .now) f)) (sym
-    (c .before .before .before .before .before .before .behind .given .1))
+returns-2 c = rw (c .before .before .before .before .before .before .behind .given .1) (ap pickupBy (sym (c .before .beat2 .given .1) ∙ c .before .before .before .beat .ensures))
 
 returns-3 : tie.Need-returns-3
 unfolding pickupItem readFound
-returns-3 c = ap (λ (f : Found). pickupItem (readFound (c .before .before .before .args .line .now) f)) (sym (c .enum-told .given .1))
+returns-3 c = rw (c .enum-told .given .1)
 
 returns-4 : tie.Need-returns-4
 unfolding pickupItem readFound
-returns-4 c = ap (λ (f : Found). pickupItem (readFound (c .before .before .before .args .line .now) f)) (sym (c .enum-told2 .given .1))
+returns-4 c = rw (c .enum-told2 .given .1)
 
 pub pickup-spec : {M : Type 1} → statement M
 pickup-spec =

@@ -1,11 +1,9 @@
 -- By how many words stand behind the key, and by what they say.
-use mathlib.Core.Path.{sym, ap, _∙_, subst}
+use mathlib.Core.Path.{sym, ap, _∙_}
 use native.Mathlib.Omega.{arith}
 use borrow.Author.Needs.{needs}
-use lib.ListN.{length}
 use Rattle.items.specs.Items.{tempoItem, tempoBy}
-use Rattle.splits.specs.Readings.{readFound, Within}
-use Rattle.splits.specs.declared.found.Found.{Found}
+use Rattle.splits.specs.Readings.{readFound}
 use Rattle.items.proofs.keys.tempo.Statement.{statement}
 use Rattle.items.proofs.keys.tempo.Tie as tie
 
@@ -13,19 +11,13 @@ enum-known-behind : tie.Need-enum-known-behind
 enum-known-behind c = search needs
 
 sub-tempo : tie.Need-sub-tempo
-sub-tempo c =
-    let inside = subst (λ (f : Found). Within (length (c .before .before .before .before .args .line .now)) f) (c .before .behind .given .1)
-    (c .before .before .before .before .pre) in omega (arith, inside)
+sub-tempo c = omega (arith, rw (c .before .behind .given .1) at (c .before .before .before .before .pre))
 
 part-tempo-start : tie.Need-part-tempo-start
-part-tempo-start c =
-    let inside = subst (λ (f : Found). Within (length (c .before .before .before .before .args .line .now)) f) (c .before .behind .given .1)
-    (c .before .before .before .before .pre) in omega (arith, inside)
+part-tempo-start c = omega (arith, rw (c .before .behind .given .1) at (c .before .before .before .before .pre))
 
 part-tempo-end : tie.Need-part-tempo-end
-part-tempo-end c =
-    let inside = subst (λ (f : Found). Within (length (c .before .before .before .before .args .line .now)) f) (c .before .behind .given .1)
-    (c .before .before .before .before .pre) in omega (arith, inside)
+part-tempo-end c = omega (arith, rw (c .before .behind .given .1) at (c .before .before .before .before .pre))
 
 tempo-requires : tie.Need-tempo-requires
 tempo-requires c κs = search needs
@@ -40,34 +32,22 @@ enum-known-behind-2 : tie.Need-enum-known-behind-2
 enum-known-behind-2 c = search needs
 
 sub-point : tie.Need-sub-point
-sub-point c =
-    let inside = subst (λ (f : Found). Within (length (c .before .before .before .before .args .line .now)) f) (c .before .behind2 .given .1)
-    (c .before .before .before .before .pre) in omega (arith, inside)
+sub-point c = omega (arith, rw (c .before .behind2 .given .1) at (c .before .before .before .before .pre))
 
 part-point-start : tie.Need-part-point-start
-part-point-start c =
-    let inside = subst (λ (f : Found). Within (length (c .before .before .before .before .args .line .now)) f) (c .before .behind2 .given .1)
-    (c .before .before .before .before .pre) in omega (arith, inside)
+part-point-start c = omega (arith, rw (c .before .behind2 .given .1) at (c .before .before .before .before .pre))
 
 part-point-end : tie.Need-part-point-end
-part-point-end c =
-    let inside = subst (λ (f : Found). Within (length (c .before .before .before .before .args .line .now)) f) (c .before .behind2 .given .1)
-    (c .before .before .before .before .pre) in omega (arith, inside)
+part-point-end c = omega (arith, rw (c .before .behind2 .given .1) at (c .before .before .before .before .pre))
 
 sub-point-2 : tie.Need-sub-point-2
-sub-point-2 c =
-    let inside = subst (λ (f : Found). Within (length (c .before .before .before .before .before .args .line .now)) f)
-    (c .before .before .behind2 .given .1) (c .before .before .before .before .before .pre) in omega (arith, inside)
+sub-point-2 c = omega (arith, rw (c .before .before .behind2 .given .1) at (c .before .before .before .before .before .pre))
 
 part-point-start-2 : tie.Need-part-point-start-2
-part-point-start-2 c =
-    let inside = subst (λ (f : Found). Within (length (c .before .before .before .before .before .args .line .now)) f)
-    (c .before .before .behind2 .given .1) (c .before .before .before .before .before .pre) in omega (arith, inside)
+part-point-start-2 c = omega (arith, rw (c .before .before .behind2 .given .1) at (c .before .before .before .before .before .pre))
 
 part-point-end-2 : tie.Need-part-point-end-2
-part-point-end-2 c =
-    let inside = subst (λ (f : Found). Within (length (c .before .before .before .before .before .args .line .now)) f)
-    (c .before .before .behind2 .given .1) (c .before .before .before .before .before .pre) in omega (arith, inside)
+part-point-end-2 c = omega (arith, rw (c .before .before .behind2 .given .1) at (c .before .before .before .before .before .pre))
 
 point-requires : tie.Need-point-requires
 point-requires c κs = search needs
@@ -77,27 +57,19 @@ enum-told c = search needs
 
 returns : tie.Need-returns
 unfolding tempoItem tempoBy readFound
-returns c =
-    ap tempoBy (sym (c .before .reason .given .1) ∙ c .before .before .before .tempo .ensures) ∙ ap (λ (f : Found). tempoItem (readFound
-    (c .before .before .before .before .before .before .before .before .before .args .line .now) f)) (sym
-    (c .before .before .before .before .before .before .behind .given .1))
+returns c = rw (c .before .before .before .before .before .before .behind .given .1) (ap tempoBy (sym (c .before .reason .given .1) ∙ c .before .before .before .tempo .ensures))
 
 returns-2 : tie.Need-returns-2
 unfolding tempoItem tempoBy readFound
-returns-2 c =
-    ap tempoBy (sym (c .before .bits .given .1) ∙ c .before .before .before .tempo .ensures) ∙ ap (λ (f : Found). tempoItem (readFound
-    (c .before .before .before .before .before .before .before .before .before .args .line .now) f)) (sym
-    (c .before .before .before .before .before .before .behind .given .1))
+returns-2 c = rw (c .before .before .before .before .before .before .behind .given .1) (ap tempoBy (sym (c .before .bits .given .1) ∙ c .before .before .before .tempo .ensures))
 
 returns-3 : tie.Need-returns-3
 unfolding tempoItem readFound
-returns-3 c =
-    c .point .ensures ∙ ap (λ (f : Found). tempoItem (readFound (c .before .before .before .before .before .before .before .args .line .now) f)) (sym
-    (c .before .before .before .before .behind2 .given .1))
+returns-3 c = rw (c .before .before .before .before .behind2 .given .1) (c .point .ensures)
 
 returns-4 : tie.Need-returns-4
 unfolding tempoItem readFound
-returns-4 c = ap (λ (f : Found). tempoItem (readFound (c .before .before .before .args .line .now) f)) (sym (c .enum-told .given .1))
+returns-4 c = rw (c .enum-told .given .1)
 
 pub tempo-spec : {M : Type 1} → statement M
 tempo-spec =
