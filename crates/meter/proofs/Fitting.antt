@@ -2,14 +2,14 @@
 use mathlib.Core.Path.{_≡_, refl, sym, ap, _∙_}
 use mathlib.Core.Bool.{true, false, not, _&&_}
 use mathlib.Core.List.{List}
-use Prim.Native.Nat.{ℕ, _%_, _≤_}
+use Prim.Native.Nat.{ℕ, _*_, _%_, _≤_}
 use native.Mathlib.Omega.{arith}
 use lib.Dec.{leb}
 use lib.IntN.{pos}
 use lib.Signed.{leZ}
 use lib.ListN.{length}
-use borrow.Author.Tests.{leb-true}
-use Rattle.numbers.specs.Answers.{accepted}
+use borrow.Author.Tests.{leb-true, eq-eqb, le-leb}
+use Rattle.numbers.specs.Answers.{Answer, accepted}
 use Rattle.numbers.proofs.Laws.{by-order, and-left, not-both}
 use Rattle.beats.specs.declared.Beat.{Beat}
 use Rattle.beats.specs.Beats.{isBeat}
@@ -23,10 +23,9 @@ use Rattle.meter.specs.Meters.{pointsOf, soundPickup}
 use Rattle.meter.specs.Starts.{startOf, exactStart}
 use Rattle.meter.specs.Counts.{Least, reaches, countAt}
 use Rattle.meter.specs.Fits.{firstZero, soundFrom, soundMap, forwardPickup, Fits}
-use Rattle.meter.specs.Answers.{countAnswer}
+use Rattle.meter.specs.Answers.{ifMap, ifPickup, countAnswer}
 use Rattle.meter.specs.Promise.{arrives, FirstBar, CountPromise}
 use Rattle.meter.proofs.Scanning.{points-length}
-use Rattle.meter.proofs.Refusing.{passed}
 use Rattle.meter.proofs.Counting.{Rising, count-least, count-past}
 use Rattle.meter.proofs.Exactness.{exact-beat, start-exact, starts-rise}
 use Rattle.meter.proofs.Readings.{counts-apart}
@@ -77,6 +76,11 @@ points-few map s = leb-true (length map) 256 (and-left (leb (length map) 256) (f
 pub forward-sound : (pickup : Pickup) → forwardPickup pickup ≡ true → soundPickup pickup ≡ true
 forward-sound Absent e = refl
 forward-sound (Present beat) e = and-left (isBeat beat) (leZ (pos 0) (beat .num)) e
+
+-- past the tests for 3, 4 and 1 stands the answer
+pub passed : {A : Type 0} (words : List ℕ) (pickup : Pickup) (answer : Answer A) → length words % 3 ≡ 0 → length words ≤ 65536 * 3 → soundPickup pickup ≡ true
+    → answer ≡ ifMap words (ifPickup pickup answer)
+passed words pickup answer even few sound = rw (eq-eqb _ _ even, le-leb _ _ few, sound)
 
 module _ (words : List ℕ) (default : ℕ) (pickup : Pickup) (beat : Beat) (even : length words % 3 ≡ 0) (fits : Fits (pointsOf words) default pickup) (fine : isBeat beat ≡ true) where
   answered : accepted (countAt (pointsOf words) default pickup beat) ≡ countAnswer words default pickup beat

@@ -22,7 +22,7 @@ pub use Rattle.meter.proofs.Fitting.{fit-exact, fit-rising, fit-least, 
 pub use Rattle.meter.proofs.Bounds.{sixteenths, good-len}
 -- bounds that suffice for a score to fit
 pub use Rattle.meter.proofs.Bounds.{suffices}
--- the refusals of a map and of a pickup come before everything else
-pub use Rattle.meter.proofs.Refusing.{uneven, too-long, unsound, passed}
+-- past the tests of a map and of a pickup stands the answer
+pub use Rattle.meter.proofs.Fitting.{passed}
 -- no two cases of an answer read alike
 pub use Rattle.meter.proofs.Readings.{meters-apart, bars-apart, counts-apart}

@@ -2,7 +2,6 @@ pub mod Scanning
 pub mod Walking
 pub mod Passing
 pub mod Searching
-pub mod Refusing
 pub mod Counting
 pub mod Exactness
 pub mod Readings

@@ -1,17 +1,16 @@
 -- 3, 4 and 1 are tested in this order, and then the answer is the length.
 use mathlib.Core.Path.{sym, ap, _∙_}
-use borrow.Author.Tests.{not-true, not-false}
+use borrow.Author.Tests.{eq-eqb, ne-eqb, le-leb, lt-leb, not-true, not-false}
 use borrow.Author.Needs.{needs}
 use Rattle.numbers.specs.Answers.{accepted}
-use Rattle.meter.proofs.Refusing.{uneven, too-long, unsound, passed}
 use Rattle.meter.proofs.bar_len.Statement.{statement}
 use Rattle.meter.proofs.bar_len.Tie as tie
 
 returns : tie.Need-returns
-returns c = let s = c .before .before in uneven (s .args .words .now) _ (c .if1 .taken)
+returns c = rw (ne-eqb _ _ (c .if1 .taken))
 
 returns-2 : tie.Need-returns-2
-returns-2 c = let s = c .before .before .before in too-long (s .args .words .now) _ (c .before .if1 .left) (c .if2 .taken)
+returns-2 c = rw (eq-eqb _ _ (c .before .if1 .left), lt-leb _ _ (c .if2 .taken))
 
 is-sound-requires : tie.Need-is-sound-requires
 is-sound-requires c κs = search needs
@@ -19,8 +18,7 @@ is-sound-requires c κs = search needs
 returns-3 : tie.Need-returns-3
 returns-3 c =
     let t = c .before .before in
-    let s = t .before .before .before in
-    unsound (s .args .words .now) (s .args .pickup) _ (t .before .if1 .left) (t .if2 .left) (sym (c .before .is-sound .ensures) ∙ not-true _ (c .if3 .taken))
+    rw (eq-eqb _ _ (t .before .if1 .left), le-leb _ _ (t .if2 .left), sym (c .before .is-sound .ensures) ∙ not-true _ (c .if3 .taken))
 
 length-requires : tie.Need-length-requires
 length-requires c κs = search needs
@@ -29,9 +27,7 @@ returns-4 : tie.Need-returns-4
 returns-4 c =
     let p = c .before .before in
     let t = p .before in
-    let s = t .before .before .before in
-    ap accepted (c .length .ensures)
-    ∙ passed (s .args .words .now) (s .args .pickup) _ (t .before .if1 .left) (t .if2 .left) (sym (p .is-sound .ensures) ∙ not-false _ (c .before .if3 .left))
+    rw (eq-eqb _ _ (t .before .if1 .left), le-leb _ _ (t .if2 .left), sym (p .is-sound .ensures) ∙ not-false _ (c .before .if3 .left)) (ap accepted (c .length .ensures))
 
 pub bar-len-spec : {M : Type 1} → statement M
 bar-len-spec =
