@@ -1,14 +1,13 @@
 -- What a caller may lean on, each law in one place: of rounding, of casts at another width or sign, of flooring, of picks and of words.
 use mathlib.Core.Path.{_≡_, refl, sym, _∙_}
-use mathlib.Core.Bool.{Bool, true, false, not, cond}
+use mathlib.Core.Bool.{Bool, true, false}
 use Prim.Native.Nat.{ℕ, _+_, _-_, _*_, _/_, _^_, _≤_, _<_, min}
 use lib.Dec.{T}
 use lib.IntN.{ℤ}
-use lib.Ieee.{Float, nan, inf, fin, Format, up, down, hid, top, lt, le, neg, fits, isNan, ofBits, toBits, toUnsigned, toSigned}
+use lib.Ieee.{Float, nan, inf, fin, Format, up, down, hid, lt, le, fits, ofBits, toBits, toUnsigned, toSigned}
 use lib.Ieee.Exact.{HasValue}
 use lib.Ieee.Positive.{positive}
-use lib.Ieee.Bits.{ofBits-toBits, toBits-ofBits}
-use Rattle.rounding.specs.Floats.{halfUp, roundAway, withoutSign, floorOf, maximum, clamp, float0}
+use Rattle.rounding.specs.Floats.{halfUp, roundAway, floorOf, maximum, clamp, float0}
 use Rattle.rounding.proofs.Nearest as by-nearest
 pub use Rattle.rounding.proofs.Nearest.{Nearest}
 use Rattle.rounding.proofs.Signs as by-sign
@@ -58,14 +57,6 @@ round-max-zero w x = max-zero w (roundAway x)
 pub narrow : (v w : ℕ) → 2 ^ v ≤ 2 ^ w → (x : Float) → toUnsigned v x ≡ min (toUnsigned w x) (2 ^ v - 1)
 narrow = by-sign.narrow
 
--- rounding at a sign is rounding the size, with the sign that the test `x < 0.0` finds
-pub round-by-sign : (h w : ℕ) → 2 ^ h < 2 ^ w → (x : Float) → toSigned h (roundAway x) ≡ stopped h (lt x float0) (toUnsigned w (roundAway (withoutSign x)))
-round-by-sign h w l x = by-sign.round-signed w x h l
-
--- and so is cutting
-pub cut-by-sign : (h w : ℕ) → 2 ^ h < 2 ^ w → (x : Float) → toSigned h x ≡ stopped h (lt x float0) (toUnsigned w (cond (lt x float0) (neg x) x))
-cut-by-sign h w l x = by-sign.cut-signed w x h l
-
 -- ---- flooring
 
 -- the floor of a number that is not negative is the whole number k at or below it, exactly
@@ -103,14 +94,6 @@ pub clamp-within : (x low high : Float) → lt high low ≡ false → (lt (clamp
 clamp-within = by-test.clamp-within
 
 -- ---- words
-
--- the float of the word of a float is that float, a NaN too
-pub float-back : (f : Format) (x : Float) → T (fits f x) → ofBits f (toBits f x) ≡ x
-float-back = ofBits-toBits
-
--- the word of the float of a word is that word, unless it is a NaN's
-pub word-back : (f : Format) (word : ℕ) → word < 2 * top f → T (not (isNan (ofBits f word))) → toBits f (ofBits f word) ≡ word
-word-back = toBits-ofBits
 
 -- every word that is above an infinity's, but for its sign, is a NaN
 pub nan-of : (f : Format) (word : ℕ) → infWord f < plain f word → ofBits f word ≡ nan

@@ -4,7 +4,7 @@ use Rattle.score_writer.proofs.Back.{reads-back}
 use Rattle.score_writer.proofs.Lent.{accepted-reads-back}
 use Rattle.score_writer.proofs.Again.{writes-again}
 -- an answer tells whether a file was written, how long it is, and where it stands
-pub use Rattle.score_writer.proofs.Accepted.{WrittenFile, written-file, file-in, file-short}
+pub use Rattle.score_writer.proofs.Accepted.{WrittenFile, written-file, file-in}
 -- how long a file is, by its points
 pub use Rattle.score_writer.proofs.Putting.{file-length}
 -- no two cases of the answer read alike

@@ -9,4 +9,4 @@ pub use Rattle.tempo.proofs.Walking.{pointsFrom, begins, ends, stops, g
 -- no two cases of an answer read alike
 pub use Rattle.tempo.proofs.Readings.{tempos-apart}
 -- seconds never fall as the beat rises; of the tempos only an infinity is excluded
-pub use Rattle.tempo.proofs.Rising.{seconds-up, seconds-at-up, seconds-rise, rising-none, rising-more, finite-tempo}
+pub use Rattle.tempo.proofs.Rising.{seconds-up, seconds-at-up, seconds-rise, finite-tempo}

@@ -5,7 +5,6 @@ use mathlib.Core.Bool.{Bool, true, false, cond}
 use mathlib.Core.List.{List, [], _∷_}
 use Prim.Native.Nat.{ℕ, _*_}
 use native.Mathlib.Nat.{le-refl}
-use lib.IntN.{ℤ}
 use lib.Dec.{T}
 use lib.Ieee.{Float, nan, inf, fin, binary32, binary64, up, down, ofBits, fits, le, neg, add, sub, mul}
 use lib.Ieee.Fits.{add-fits}
@@ -14,28 +13,15 @@ use lib.Ieee.Scale.{finite}
 use Rattle.numbers.proofs.Laws.{holds}
 use Rattle.rounding.specs.Floats.{float0, float1, withoutSign}
 use Rattle.rounding.proofs.Laws.{max-positive}
-use Rattle.beats.specs.Frames.{float60, beatFloat, secondsAt}
-use Rattle.tempo.specs.Tempos.{TempoPoint, tempoOf, tempoPoints, elapsed, walk, wholeWalk, secondsAtBeat}
+use Rattle.beats.specs.Frames.{float60, secondsAt}
+use Rattle.tempo.specs.Tempos.{TempoPoint, tempoOf, elapsed, walk, wholeWalk, secondsAtBeat}
 use Rattle.tempo.specs.Rising.{Follows, RisingFrom, RisingMap}
 use Rattle.rounding.proofs.Laws.{Up, up-right, up-trans, le→up, nle→up, up→le, mul-up, div-up, add-up, add-more, sub-up}
 use Rattle.tempo.proofs.Zeros.{Zero, FromZero, sub-zero, mul-zero, div-zero, add-zero, signed-zero, zero-below, le-plain, from-zero-on}
 
--- ---- rising maps
-
 -- the tempo of given bits is finite and above 0, unless they are infinity's
 pub finite-tempo : (bits : ℕ) → (ofBits binary32 bits ≡ inf false → ⊥) → T (positive (tempoOf bits))
 finite-tempo bits h = max-positive (ofBits binary32 bits) float1 tt h
-
--- the points of three lists: none, and one before others
-pub rising-none : (from : Float) (dens tempos : List ℕ) → RisingFrom from (tempoPoints [] dens tempos)
-unfolding tempoPoints
-rising-none from dens tempos = tt
-
-pub rising-more : (from : Float) (num : ℤ) (den bits : ℕ) (nums : List ℤ) (dens tempos : List ℕ)
-    → Follows from (record { at = beatFloat num den; tempo = tempoOf bits }) → RisingFrom (beatFloat num den) (tempoPoints nums dens tempos)
-    → RisingFrom from (tempoPoints (num ∷ nums) (den ∷ dens) (bits ∷ tempos))
-unfolding tempoPoints
-rising-more from num den bits nums dens tempos f r = (f, r)
 
 -- ---- beats from 0 on, without a zero's sign
 
