@@ -53,7 +53,7 @@ module _ (t : Transport) (words : List ℕ) (nums : List ℤ) (dens tempos out :
     passed p = (parallel nums dens tempos (known p .0), known p .1)
 
     pub answered : ifPassed test done ≡ fillAnswer t words nums dens tempos out
-    answered = by-test t finding done test test e refl
+    answered = by-test t finding done e refl
 
     pub after : newOr (ifPassed test done) (barLines t (pointsOf words) (tempoPoints nums dens tempos) (length out)) out ≡ fillAfter t words nums dens tempos out
     after = ap (λ (x : Answer Unit). newOr x (barLines t (pointsOf words) (tempoPoints nums dens tempos) (length out)) out) answered

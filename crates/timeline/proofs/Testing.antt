@@ -33,9 +33,9 @@ ifPassed (Refused why) answer = refused (numberOf why) []
 
 -- what the code answers to its test is what the definitions answer
 module _ {A : Type 0} (t : Transport) (finding : MapTest) (answer : Answer A) where
-  pub by-test : (test found : Test) → test ≡ testOf t finding → test ≡ found → ifPassed found answer ≡ ifTested t finding answer
+  pub by-test : {test found : Test} → test ≡ testOf t finding → test ≡ found → ifPassed found answer ≡ ifTested t finding answer
   unfolding testOf ifTested
-  by-test test found e is = ap (λ (x : Test). ifPassed x answer) (sym is ∙ e) ∙ go (sound t) finding
+  by-test e is = ap (λ (x : Test). ifPassed x answer) (sym is ∙ e) ∙ go (sound t) finding
     where
       go : (q : Bool) (f : MapTest) → ifPassed (cond q (tested f) (Refused R.Unsound)) answer ≡ cond q (ifSound f answer) (refused 12 [])
       go false f = refl
@@ -51,15 +51,15 @@ hands-back t R.TooLong = refl
 hands-back t R.NotBeat = refl
 
 -- the same of a change: a test that passed hands on what the change hands, and a refusal hands back the old transport
-module _ (t : Transport) (finding : MapTest) (change : Answer Transport) (test : Test) (e : test ≡ testOf t finding) where
+module _ (t : Transport) (finding : MapTest) (change : Answer Transport) {test : Test} (e : test ≡ testOf t finding) where
   pub passed-change : test ≡ Passed → handed t change ≡ handed t (ifTested t finding change)
-  passed-change is = ap (handed t) (by-test t finding change test Passed e is)
+  passed-change is = ap (handed t) (by-test t finding change e is)
 
-  pub refused-change : (why : Refusal) → test ≡ Refused why → readChanged (refusedBy t (reportOf why)) ≡ handed t (ifTested t finding change)
-  refused-change why is = hands-back t why ∙ ap (handed t) (by-test t finding change test (Refused why) e is)
+  pub refused-change : {why : Refusal} → test ≡ Refused why → readChanged (refusedBy t (reportOf why)) ≡ handed t (ifTested t finding change)
+  refused-change {why} is = hands-back t why ∙ ap (handed t) (by-test t finding change e is)
 
 -- 10 where the bar is above 2 ^ 32 - 1, and else the answer at the bar
-module _ (n bar : ℕ) (is : n ≡ bar) where
+module _ {n bar : ℕ} (is : n ≡ bar) where
   pub beyond : (answer : Answer ℕ) → 4294967295 < n → refused 10 [] ≡ inReach bar answer
   beyond answer h = rw (lt-leb bar 4294967295 (omega arith))
 
@@ -102,9 +102,9 @@ module _ (nums : List ℤ) (dens tempos : List ℕ) where
   parallel e = let known = tempo.sound nums dens tempos e in record { even-dens = known .even-dens; even-tempos = known .even-tempos }
 
   module _ (t : Transport) where
-    pub tempo-parallel : (test : Test) → test ≡ testOf t (mapTest nums dens tempos) → test ≡ Passed → Parallel nums dens tempos
-    tempo-parallel test e p = parallel (passes t (mapTest nums dens tempos) (sym p ∙ e) .lists)
+    pub tempo-parallel : {test : Test} → test ≡ testOf t (mapTest nums dens tempos) → test ≡ Passed → Parallel nums dens tempos
+    tempo-parallel e p = parallel (passes t (mapTest nums dens tempos) (sym p ∙ e) .lists)
 
-    pub maps-parallel : (words : List ℕ) (test : Test) → test ≡ testOf t (mapsTest words nums dens tempos) → test ≡ Passed → Parallel nums dens tempos
+    pub maps-parallel : (words : List ℕ) {test : Test} → test ≡ testOf t (mapsTest words nums dens tempos) → test ≡ Passed → Parallel nums dens tempos
     unfolding mapsTest
-    maps-parallel words test e p = parallel (both-sound (wordsTest words) (mapTest nums dens tempos) (passes t (mapsTest words nums dens tempos) (sym p ∙ e) .lists) .1)
+    maps-parallel words e p = parallel (both-sound (wordsTest words) (mapTest nums dens tempos) (passes t (mapsTest words nums dens tempos) (sym p ∙ e) .lists) .1)

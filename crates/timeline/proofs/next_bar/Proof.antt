@@ -6,10 +6,8 @@ use borrow.Author.Needs.{needs}
 use Rattle.numbers.specs.Answers.{accepted}
 use Rattle.meter.specs.Meters.{pointsOf}
 use Rattle.tempo.specs.Tempos.{tempoPoints}
-use Rattle.timeline.specs.Tests.{mapsTest}
-use Rattle.timeline.specs.Places.{frameAtBar, nextGridBar}
+use Rattle.timeline.specs.Places.{frameAtBar}
 use Rattle.timeline.proofs.Testing.{by-test, beyond, within-reach, maps-parallel}
-use Rattle.timeline.specs.declared.tests.Test.the-variants.{Sound as Passed, Refused}
 use Rattle.timeline.proofs.next_bar.Statement.{statement}
 use Rattle.timeline.proofs.next_bar.Tie as tie
 
@@ -23,35 +21,21 @@ enum-told : tie.Need-enum-told
 enum-told c = search needs
 
 next-grid-bar-requires : tie.Need-next-grid-bar-requires
-next-grid-bar-requires c κs =
-    let m = c .before .before in
-    let s = m .before .before .before .before .args in
-    maps-parallel (now (s .nums)) (now (s .dens)) (now (s .tempos)) (s .t) (now (s .words)) _ (m .maps-test .ensures) (c .enum-told .given .1)
+next-grid-bar-requires c κs = maps-parallel _ _ _ _ _ (c .before .before .maps-test .ensures) (c .enum-told .given .1)
 
 returns : tie.Need-returns
 returns c =
-    let m = c .before .before .before .before in
-    let s = m .before .before .before .before .args in
-    let map = pointsOf (now (s .words)) in
-    let points = tempoPoints (now (s .nums)) (now (s .dens)) (now (s .tempos)) in
-    let bar = nextGridBar (s .t) map points (s .every) in
-    beyond _ bar (c .before .next-grid-bar .ensures) _ (c .if1 .taken)
-    ∙ by-test (s .t) (mapsTest (now (s .words)) (now (s .nums)) (now (s .dens)) (now (s .tempos))) _ _ Passed (m .maps-test .ensures) (c .before .before .enum-told .given .1)
+    beyond (c .before .next-grid-bar .ensures) _ (c .if1 .taken)
+    ∙ by-test _ _ _ (c .before .before .before .before .maps-test .ensures) (c .before .before .enum-told .given .1)
 
 cast-frame-at-bar : tie.Need-cast-frame-at-bar
 cast-frame-at-bar c = search needs
 
 frame-at-bar-requires : tie.Need-frame-at-bar-requires
-frame-at-bar-requires c κs =
-    let m = c .before .before .before .before in
-    let s = m .before .before .before .before .args in
-    maps-parallel (now (s .nums)) (now (s .dens)) (now (s .tempos)) (s .t) (now (s .words)) _ (m .maps-test .ensures) (c .before .before .enum-told .given .1)
+frame-at-bar-requires c κs = maps-parallel _ _ _ _ _ (c .before .before .before .before .maps-test .ensures) (c .before .before .enum-told .given .1)
 
 returns-2 : tie.Need-returns-2
-returns-2 c =
-    let m = c .before .before .before in
-    let s = m .before .before .before .before .args in
-    by-test (s .t) (mapsTest (now (s .words)) (now (s .nums)) (now (s .dens)) (now (s .tempos))) _ _ (Refused _) (m .maps-test .ensures) (c .before .why .given .1)
+returns-2 c = by-test _ _ _ (c .before .before .before .maps-test .ensures) (c .before .why .given .1)
 
 returns-3 : tie.Need-returns-3
 returns-3 c =
@@ -59,10 +43,9 @@ returns-3 c =
     let s = m .before .before .before .before .args in
     let map = pointsOf (now (s .words)) in
     let points = tempoPoints (now (s .nums)) (now (s .dens)) (now (s .tempos)) in
-    let bar = nextGridBar (s .t) map points (s .every) in
     rw (c .frame-at-bar .ensures)
-    (within-reach _ bar (c .before .before .next-grid-bar .ensures) (λ (n : ℕ). accepted (frameAtBar (s .t) map points n)) (c .before .if1 .left)
-    ∙ by-test (s .t) (mapsTest (now (s .words)) (now (s .nums)) (now (s .dens)) (now (s .tempos))) _ _ Passed (m .maps-test .ensures) (c .before .before .before .enum-told .given .1))
+    (within-reach (c .before .before .next-grid-bar .ensures) (λ (n : ℕ). accepted (frameAtBar (s .t) map points n)) (c .before .if1 .left)
+    ∙ by-test _ _ _ (m .maps-test .ensures) (c .before .before .before .enum-told .given .1))
 
 pub next-bar-spec : {M : Type 1} → statement M
 next-bar-spec =
