@@ -11,6 +11,7 @@ use Rattle.meter.specs.Counts.{countAt}
 use Rattle.beats.specs.declared.Beat.{Beat}
 use Rattle.fits.specs.Decision.{fitsBool}
 use Rattle.score.specs.declared.Score.{Score}
+use Rattle.score.specs.declared.ScoreAnswer.{ScoreAnswer}
 use Rattle.score.specs.declared.ScoreAnswer.the-variants.{Read, BadFile}
 use Rattle.score.specs.Format.{isScore, scoreOf, meterWords}
 use Rattle.score.specs.Answers.{scoreAnswer, after}
@@ -45,17 +46,18 @@ module _ (map : List MeterPoint) (default : ℕ) (pickup : Pickup) where
 -- ---- the file
 
 module _ (file word : List ℕ) where
-  pub refusal-is : readScore BadFile ≡ scoreAnswer file → badFileText ≡ countText file word
+  pub refusal-is : {r : ScoreAnswer} → r ≡ BadFile → readScore r ≡ scoreAnswer file → badFileText ≡ countText file word
   unfolding countText
-  refusal-is e = simp (bad-file file e)
+  refusal-is is e = simp (bad-file file is e)
 
   good-is : isScore file ≡ true
       → askedText (pointsOf (meterWords file)) (scoreOf file .beats) (scoreOf file .pickup) (beatOf word) ≡ countText file word
   unfolding countText
   good-is g = simp g
 
-  pub file-is : (score : Score) → readScore (Read score) ≡ scoreAnswer file → (meter₀ : List ℕ) {meter : List ℕ} → meter ≡ after file (meterWords file) meter₀
+  pub file-is : {r : ScoreAnswer} {score : Score} → r ≡ Read score → readScore r ≡ scoreAnswer file → (meter₀ : List ℕ) {meter : List ℕ}
+      → meter ≡ after file (meterWords file) meter₀
       → askedText (pointsOf (take (3 * score .meters) meter)) (score .beats) (score .pickup) (beatOf word) ≡ countText file word
-  file-is score e meter₀ m =
-      let g = good-file file score e in
-      rw (says file score e, m, meter-front file g meter₀) (good-is g)
+  file-is is e meter₀ m =
+      let g = good-file file is e in
+      rw (says file is e, m, meter-front file g meter₀) (good-is g)

@@ -1,35 +1,30 @@
 -- The form of what was read from a file is the form of the file; a text put at the front counts as a part; and one byte more than the longest file is enough to read.
 use mathlib.Core.Path.{_≡_}
-use mathlib.Core.Bool.{true}
 use mathlib.Core.List.{List}
 use Prim.Native.Nat.{ℕ, _*_, _<_}
 use lib.IntN.{ℤ}
 use lib.ListN.{length, take}
 use Rattle.score.specs.declared.Score.{Score}
+use Rattle.score.specs.declared.ScoreAnswer.{ScoreAnswer}
 use Rattle.score.specs.declared.ScoreAnswer.the-variants.{Read, BadFile}
-use Rattle.score.specs.Format.{isScore, scoreOf, meterWords, tempoNums, tempoDens, tempoBits}
+use Rattle.score.specs.Format.{meterWords, tempoNums, tempoDens, tempoBits}
 use Rattle.score.specs.Answers.{scoreAnswer, after}
 use Rattle.score.specs.Readings.{readScore}
 use Rattle.score.proofs.Laws as score
-use Rattle.score.proofs.Laws.{bad-file, good-file, says, meter-front, nums-front, dens-front, bits-front, too-long}
+use Rattle.score.proofs.Laws.{bad-file, made-of-file, too-long}
 use Rattle.form_text.specs.Forms.{formOf, refusalText, formText}
 
-module _ (b : List ℕ) where
-  pub refusal-is : readScore BadFile ≡ scoreAnswer b → refusalText ≡ formText b
+module _ (b : List ℕ) {r : ScoreAnswer} where
+  pub refusal-is : r ≡ BadFile → readScore r ≡ scoreAnswer b → refusalText ≡ formText b
   unfolding formText
-  refusal-is e = simp (bad-file b e)
+  refusal-is is e = simp (bad-file b is e)
 
-  good-is : isScore b ≡ true → formOf (scoreOf b) (meterWords b) (tempoNums b) (tempoDens b) (tempoBits b) ≡ formText b
+  pub form-is : {s : Score} → r ≡ Read s → readScore r ≡ scoreAnswer b → (meter₀ : List ℕ) (nums₀ : List ℤ) (dens₀ bits₀ : List ℕ)
+      {meter : List ℕ} {nums : List ℤ} {dens bits : List ℕ} → meter ≡ after b (meterWords b) meter₀ → nums ≡ after b (tempoNums b) nums₀
+      → dens ≡ after b (tempoDens b) dens₀ → bits ≡ after b (tempoBits b) bits₀
+      → formOf s (take (3 * s .meters) meter) (take (s .tempos) nums) (take (s .tempos) dens) (take (s .tempos) bits) ≡ formText b
   unfolding formText
-  good-is g = simp g
-
-  module _ (s : Score) (e : readScore (Read s) ≡ scoreAnswer b) where
-    pub form-is : (meter₀ : List ℕ) (nums₀ : List ℤ) (dens₀ bpms₀ : List ℕ) {meter : List ℕ} {nums : List ℤ} {dens bpms : List ℕ}
-        → meter ≡ after b (meterWords b) meter₀ → nums ≡ after b (tempoNums b) nums₀ → dens ≡ after b (tempoDens b) dens₀ → bpms ≡ after b (tempoBits b) bpms₀
-        → formOf s (take (3 * s .meters) meter) (take (s .tempos) nums) (take (s .tempos) dens) (take (s .tempos) bpms) ≡ formText b
-    form-is meter₀ nums₀ dens₀ bpms₀ em en ed ep =
-        let g = good-file b s e in
-        rw (says b s e, em, en, ed, ep, meter-front b g meter₀, nums-front b g nums₀, dens-front b g dens₀, bits-front b g bpms₀) (good-is g)
+  form-is is e = made-of-file b is e formOf refusalText
 
 -- ---- a longer input
 

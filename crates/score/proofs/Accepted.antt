@@ -15,6 +15,7 @@ use Rattle.beats.specs.Beats.{isBeat}
 use Rattle.meter.specs.declared.Pickup.the-variants.{Absent, Present}
 use Rattle.meter.specs.Meters.{soundPickup}
 use Rattle.score.specs.declared.Score.{Score}
+use Rattle.score.specs.declared.ScoreAnswer.{ScoreAnswer}
 use Rattle.score.specs.declared.ScoreAnswer.the-variants.{Read, BadFile}
 use Rattle.score.specs.Bytes.{wordAt, numberAt}
 use Rattle.score.specs.Format.{tempoOffset, tempoCount, meterCount, isScore, scoreOf, meterWords, tempoNums, tempoDens, tempoBits}
@@ -32,25 +33,28 @@ value : Score → Answer Score → Score
 value s (accepted a) = a
 value s (refused n facts) = s
 
-module _ (b : List ℕ) where
-  pub bad-file : readScore BadFile ≡ scoreAnswer b → isScore b ≡ false
-  bad-file e = go (isScore b) refl
+-- what the answer r says of the bytes that it was given for
+module _ (b : List ℕ) {r : ScoreAnswer} where
+  pub bad-file : r ≡ BadFile → readScore r ≡ scoreAnswer b → isScore b ≡ false
+  bad-file is e = go (isScore b) refl
     where
       go : (x : Bool) → isScore b ≡ x → isScore b ≡ false
-      go true t = never (scoreOf b) (accepted-is b t (scoreOf b) refl ∙ sym e)
+      go true t = never (scoreOf b) (accepted-is b t (scoreOf b) refl ∙ sym e ∙ ap readScore is)
       go false t = t
 
-  pub good-file : (s : Score) → readScore (Read s) ≡ scoreAnswer b → isScore b ≡ true
-  good-file s e = go (isScore b) refl
-    where
-      go : (x : Bool) → isScore b ≡ x → isScore b ≡ true
-      go true t = t
-      go false t = never s (e ∙ sym (refused-is b t))
+  module _ {s : Score} (is : r ≡ Read s) (e : readScore r ≡ scoreAnswer b) where
+    pub good-file : isScore b ≡ true
+    good-file = go (isScore b) refl
+      where
+        go : (x : Bool) → isScore b ≡ x → isScore b ≡ true
+        go true t = t
+        go false t = never s (sym (ap readScore is) ∙ e ∙ sym (refused-is b t))
 
-  pub says : (s : Score) → readScore (Read s) ≡ scoreAnswer b → s ≡ scoreOf b
-  unfolding value
-  says s e = ap (value s) (e ∙ sym (accepted-is b (good-file s e) (scoreOf b) refl))
+    pub says : s ≡ scoreOf b
+    unfolding value
+    says = ap (value s) (sym (ap readScore is) ∙ e ∙ sym (accepted-is b good-file (scoreOf b) refl))
 
+module _ (b : List ℕ) where
   module _ (good : isScore b ≡ true) where
     -- ---- the limits
 
@@ -116,16 +120,26 @@ file-pickup b e = go (eqb (pickupDen b) 0) (good-pickup b e)
     go true g = refl
     go false g = g
 
-module _ (b : List ℕ) (s : Score) (e : readScore (Read s) ≡ scoreAnswer b) where
+module _ (b : List ℕ) {r : ScoreAnswer} {s : Score} (is : r ≡ Read s) (e : readScore r ≡ scoreAnswer b) where
   pub meters-few : s .meters ≤ 256
-  meters-few = rw (says b s e) (few-meters b (good-file b s e))
+  meters-few = rw (says b is e) (few-meters b (good-file b is e))
 
   pub tempos-few : s .tempos ≤ 1024
-  tempos-few = rw (says b s e) (few-tempos b (good-file b s e))
+  tempos-few = rw (says b is e) (few-tempos b (good-file b is e))
 
   -- its pickup is absent or a beat
   pub pickup-sound : soundPickup (s .pickup) ≡ true
-  pickup-sound = rw (says b s e) (file-pickup b (good-file b s e))
+  pickup-sound = rw (says b is e) (file-pickup b (good-file b is e))
+
+  -- what is made of it and of the fronts of the lists is made of what the file says
+  pub made-of-file : {A : Type 0} (make : Score → List ℕ → List ℤ → List ℕ → List ℕ → A) (none : A) (meter₀ : List ℕ) (nums₀ : List ℤ) (dens₀ bits₀ : List ℕ)
+      {meter : List ℕ} {nums : List ℤ} {dens bits : List ℕ} → meter ≡ after b (meterWords b) meter₀ → nums ≡ after b (tempoNums b) nums₀
+      → dens ≡ after b (tempoDens b) dens₀ → bits ≡ after b (tempoBits b) bits₀
+      → make s (take (3 * s .meters) meter) (take (s .tempos) nums) (take (s .tempos) dens) (take (s .tempos) bits)
+      ≡ cond (isScore b) (make (scoreOf b) (meterWords b) (tempoNums b) (tempoDens b) (tempoBits b)) none
+  made-of-file make none meter₀ nums₀ dens₀ bits₀ em en ed eb =
+      let g = good-file b is e in
+      rw (says b is e, em, en, ed, eb, meter-front b g meter₀, nums-front b g nums₀, dens-front b g dens₀, bits-front b g bits₀, g)
 
 -- ---- a longer input
 

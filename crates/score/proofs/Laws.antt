@@ -4,8 +4,8 @@
 pub use Rattle.score.proofs.Accepted.{bad-file, good-file, says}
 -- the counts have limits, and the points are the fronts of the lent lists
 pub use Rattle.score.proofs.Accepted.{few-meters, few-tempos, meter-front, nums-front, dens-front, bits-front}
--- a score that was read has these limits, and a pickup that is absent or a beat
-pub use Rattle.score.proofs.Accepted.{meters-few, tempos-few, pickup-sound}
+-- a score that was read has these limits, and a pickup that is absent or a beat; what is made of it is made of what the file says
+pub use Rattle.score.proofs.Accepted.{meters-few, tempos-few, pickup-sound, made-of-file}
 -- and so has the length
 pub use Rattle.score.proofs.Accepted.{longest, too-long}
 -- one byte more than the longest settles what a program makes of an input

@@ -1,8 +1,6 @@
 -- Other bytes are refused; a score file's answer is that of what was read.
-use mathlib.Core.Path.{sym, ap, _∙_}
 use native.Mathlib.Omega.{arith}
 use borrow.Author.Needs.{needs}
-use Rattle.score.specs.Readings.{readScore}
 use Rattle.score.proofs.Laws.{meters-few, pickup-sound}
 use Rattle.text.proofs.Laws.{retext, counted}
 use Rattle.count_text.proofs.Files.{refusal-is, file-is}
@@ -27,26 +25,23 @@ enum-known-score c = search needs
 asked-requires : tie.Need-asked-requires
 asked-requires c κs =
     let bound = c .before .before .before in
-    let read = bound .before .before in
-    let e = sym (ap readScore (bound .score .given .1)) ∙ read .read-score .ensures .0 in
-    (omega arith, meters-few _ _ e, pickup-sound _ _ e)
+    let is = bound .score .given .1 in
+    let read = bound .before .before .read-score .ensures .0 in
+    (omega arith, meters-few _ is read, pickup-sound _ is read)
 
 returns : tie.Need-returns
 returns c =
     let told = c .before .before .before in
-    let read = told .before .before in
-    let e = sym (ap readScore (told .enum-told .given .1)) ∙ read .read-score .ensures .0 in
-    let s = c .before .before .before .before .before .before .before .before .before .before .before .before .args in
-    let put = retext (refusal-is (s .file .now) (s .word .now) e) (c .bytes .ensures) in
+    let s = told .before .before .before .before .before .before .before .before .before .args in
+    let put = retext (refusal-is (s .file .now) (s .word .now) (told .enum-told .given .1) (told .before .before .read-score .ensures .0)) (c .bytes .ensures) in
     (put, counted put (omega (arith, put .next-is)))
 
 returns-2 : tie.Need-returns-2
 returns-2 c =
     let bound = c .before .before .before .before in
-    let read = bound .before .before .read-score in
-    let e = sym (ap readScore (bound .score .given .1)) ∙ read .ensures .0 in
-    let s = c .before .before .before .before .before .before .before .before .before .before .before .before .before .args in
-    let put = retext (file-is (s .file .now) (s .word .now) _ e _ (read .ensures .1)) (c .asked .ensures .0) in
+    let read = bound .before .before .read-score .ensures in
+    let s = bound .before .before .before .before .before .before .before .before .before .args in
+    let put = retext (file-is (s .file .now) (s .word .now) (bound .score .given .1) (read .0) _ (read .1)) (c .asked .ensures .0) in
     (put, counted put (omega (arith, c .asked .ensures .1)))
 
 pub count-of-spec : {M : Type 1} → statement M
