@@ -6,7 +6,7 @@ use meter::MeterPoint;
 use meter::bars;
 use transport::Transport;
 ghost use mathlib.Core.Path.{_≡_};
-ghost use Prim.Native.Nat.{max, _+_, _*_, _≤_};
+ghost use Prim.Native.Nat.{_*_, _≤_};
 ghost use lib.ListN.{length};
 ghost use Rattle.meter.specs.Meters.{pointsOf, lenOf};
 ghost use Rattle.filler.specs.Numbers.{markOf, numbered};
@@ -32,12 +32,6 @@ pub fn open(t: Transport, words: &[u32]) -> Segment
         len,
         number: 0,
     }
-}
-
-fn larger(a: u64, b: u64) -> u64
-    ensures { λ r. ⌜ r ≡ max a b ⌝ }
-{
-    if a < b { b } else { a }
 }
 
 // The length of the bars of a point's meter.
@@ -84,7 +78,7 @@ pub fn on_to(t: Transport, words: &[u32], bar: u32, mark: u64, s: Segment) -> Se
     requires { ⌜ mark ≡ markOf (pointsOf (now words)) bar ⌝ }
     ensures { λ r. ⌜ Has (pointsOf (now (words .entry))) (t .«beats_per_bar») (t .pickup) bar r ⌝ }
 {
-    let number = larger(s.number, mark);
+    let number = if s.number < mark { mark } else { s.number };
     if begins(bar, mark) {
         let at = end_of(s, bar);
         let len = length_of(words, t.beats_per_bar, number);
