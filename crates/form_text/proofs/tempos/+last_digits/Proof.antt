@@ -20,51 +20,52 @@ use Rattle.form_text.proofs.tempos.+last_digits.Tie.{close}
 abbrev μ-digits : Measures 1 digits-kinds.ps ℕ
 μ-digits κs a = a .1 .1 .1 .0
 
-abbrev digits-at : ℕ → In 1 digits-kinds.ps
-digits-at t = and 1 digits-kinds.ps (is 1 digits-kinds.ps μ-digits t) digits.Pre
+module _ (t : ℕ) where
+  abbrev digits-at : In 1 digits-kinds.ps
+  digits-at = and 1 digits-kinds.ps (is 1 digits-kinds.ps μ-digits t) digits.Pre
 
-abbrev digits-below : ℕ → In 1 digits-kinds.ps
-digits-below t = and 1 digits-kinds.ps (falls 1 digits-kinds.ps _<_ μ-digits t) digits.Pre
+  abbrev digits-below : In 1 digits-kinds.ps
+  digits-below = and 1 digits-kinds.ps (falls 1 digits-kinds.ps _<_ μ-digits t) digits.Pre
 
-abbrev calls : ℕ → lts.Claims
-calls t = (digits-below t, digits.Post, byte-of.Asked, byte-of.Learnt, byte-reads.Asked, byte-reads.Learnt)
+  abbrev calls : lts.Claims
+  calls = (digits-below, digits.Post, byte-of.Asked, byte-of.Learnt, byte-reads.Asked, byte-reads.Learnt)
 
-returns : (t : ℕ) → lts.Need-returns (calls t) (digits-at t) digits.Post
-returns t c = no-digits _ _ _ _ _ (c .if1 .taken)
+  returns : lts.Need-returns calls digits-at digits.Post
+  returns c = no-digits _ _ _ _ _ (c .if1 .taken)
 
-sub-last-digits : (t : ℕ) → lts.Need-sub-last-digits (calls t) (digits-at t) digits.Post
-sub-last-digits t c = search needs
+  sub-last-digits : lts.Need-sub-last-digits calls digits-at digits.Post
+  sub-last-digits c = search needs
 
-div-last-digits : (t : ℕ) → lts.Need-div-last-digits (calls t) (digits-at t) digits.Post
-div-last-digits t c = let s = c .before .before .before in omega (arith, s .pre .1)
+  div-last-digits : lts.Need-div-last-digits calls digits-at digits.Post
+  div-last-digits c = let s = c .before .before .before in omega (arith, s .pre .1)
 
-last-digits-requires : (t : ℕ) → lts.Need-last-digits-requires (calls t) (digits-at t) digits.Post
-last-digits-requires t c κs = (omega arith, (omega arith, omega arith, omega arith))
+  last-digits-requires : lts.Need-last-digits-requires calls digits-at digits.Post
+  last-digits-requires c κs = (omega arith, (omega arith, omega arith, omega arith))
 
-rem-digit-byte : (t : ℕ) → lts.Need-rem-digit-byte (calls t) (digits-at t) digits.Post
-rem-digit-byte t c = let s = c .before .before .before .before .before .before .before in omega (arith, s .pre .1)
+  rem-digit-byte : lts.Need-rem-digit-byte calls digits-at digits.Post
+  rem-digit-byte c = let s = c .before .before .before .before .before .before .before in omega (arith, s .pre .1)
 
-digit-byte-requires : (t : ℕ) → lts.Need-digit-byte-requires (calls t) (digits-at t) digits.Post
-digit-byte-requires t c κs = let a = c .before .before .before .before .before .before .before .args in let some : 0 < a .base = omega arith in omega (arith, mod-lt (a .n) some)
+  digit-byte-requires : lts.Need-digit-byte-requires calls digits-at digits.Post
+  digit-byte-requires c κs = let a = c .before .before .before .before .before .before .before .args in let some : 0 < a .base = omega arith in omega (arith, mod-lt (a .n) some)
 
-byte-requires : (t : ℕ) → lts.Need-byte-requires (calls t) (digits-at t) digits.Post
-byte-requires t c κs =
-    let front = c .before .before .before .before in
-    let a = front .before .before .before .before .args in
-    omega (arith, digits-length (a .base) (a .count - 1) (a .n / a .base), front .last-digits .ensures .next-is)
+  byte-requires : lts.Need-byte-requires calls digits-at digits.Post
+  byte-requires c κs =
+      let front = c .before .before .before .before in
+      let a = front .before .before .before .before .args in
+      omega (arith, digits-length (a .base) (a .count - 1) (a .n / a .base), front .last-digits .ensures .next-is)
 
-same-length : (t : ℕ) → lts.Need-same-length (calls t) (digits-at t) digits.Post
-same-length t c = search needs
+  same-length : lts.Need-same-length calls digits-at digits.Post
+  same-length c = search needs
 
-returns-2 : (t : ℕ) → lts.Need-returns-2 (calls t) (digits-at t) digits.Post
-returns-2 t c =
-    let last = c .before .before in
-    let front = c .before .before .before .before .before .before .before in
-    let s = c .before .before .before .before .before .before .before .before .before .before .before in
-    let a = s .args in
-    let digit = c .before .before .before .digit-byte .ensures in
-    let put = retext (ap (λ (k : ℕ). k ∷ []) digit) (last .byte .ensures) in
-    retext (more-digits (a .base) (a .n) (a .count) (omega arith)) (behind (omega arith) (front .last-digits .ensures) put)
+  returns-2 : lts.Need-returns-2 calls digits-at digits.Post
+  returns-2 c =
+      let last = c .before .before in
+      let front = c .before .before .before .before .before .before .before in
+      let s = c .before .before .before .before .before .before .before .before .before .before .before in
+      let a = s .args in
+      let digit = c .before .before .before .digit-byte .ensures in
+      let put = retext (ap (λ (k : ℕ). k ∷ []) digit) (last .byte .ensures) in
+      retext (more-digits (a .base) (a .n) (a .count) (omega arith)) (behind (omega arith) (front .last-digits .ensures) put)
 
 pub +last-digits-spec : {M : Type 1} → statement M
 +last-digits-spec = close μ-digits λ t. lts.spec (calls t)

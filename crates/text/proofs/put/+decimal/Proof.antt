@@ -19,56 +19,57 @@ use Rattle.text.proofs.put.+decimal.Tie.{close}
 abbrev μ-decimal : Measures 1 decimal-kinds.ps ℕ
 μ-decimal κs a = a .1 .1 .0
 
-abbrev decimal-at : ℕ → In 1 decimal-kinds.ps
-decimal-at t = and 1 decimal-kinds.ps (is 1 decimal-kinds.ps μ-decimal t) decimal.Pre
+module _ (t : ℕ) where
+  abbrev decimal-at : In 1 decimal-kinds.ps
+  decimal-at = and 1 decimal-kinds.ps (is 1 decimal-kinds.ps μ-decimal t) decimal.Pre
 
-abbrev decimal-below : ℕ → In 1 decimal-kinds.ps
-decimal-below t = and 1 decimal-kinds.ps (falls 1 decimal-kinds.ps _<_ μ-decimal t) decimal.Pre
+  abbrev decimal-below : In 1 decimal-kinds.ps
+  decimal-below = and 1 decimal-kinds.ps (falls 1 decimal-kinds.ps _<_ μ-decimal t) decimal.Pre
 
-abbrev calls : ℕ → lts.Claims
-calls t = (byte-reads.Asked, byte-reads.Learnt, decimal-below t, decimal.Post)
+  abbrev calls : lts.Claims
+  calls = (byte-reads.Asked, byte-reads.Learnt, decimal-below, decimal.Post)
 
-add-byte : (t : ℕ) → lts.Need-add-byte (calls t) (decimal-at t) decimal.Post
-add-byte t c = search needs
+  add-byte : lts.Need-add-byte calls decimal-at decimal.Post
+  add-byte c = search needs
 
-cast-byte : (t : ℕ) → lts.Need-cast-byte (calls t) (decimal-at t) decimal.Post
-cast-byte t c = search needs
+  cast-byte : lts.Need-cast-byte calls decimal-at decimal.Post
+  cast-byte c = search needs
 
-byte-requires : (t : ℕ) → lts.Need-byte-requires (calls t) (decimal-at t) decimal.Post
-byte-requires t c κs = omega (arith, digit-length (c .before .before .before .args .n) (c .before .if1 .taken))
+  byte-requires : lts.Need-byte-requires calls decimal-at decimal.Post
+  byte-requires c κs = omega (arith, digit-length (c .before .before .before .args .n) (c .before .if1 .taken))
 
-same-length : (t : ℕ) → lts.Need-same-length (calls t) (decimal-at t) decimal.Post
-same-length t c = search needs
+  same-length : lts.Need-same-length calls decimal-at decimal.Post
+  same-length c = search needs
 
-returns : (t : ℕ) → lts.Need-returns (calls t) (decimal-at t) decimal.Post
-returns t c =
-    let test = c .before .before .before .before in
-    retext (sym (digit (test .before .before .args .n) (test .if1 .taken))) (c .before .before .byte .ensures)
+  returns : lts.Need-returns calls decimal-at decimal.Post
+  returns c =
+      let test = c .before .before .before .before in
+      retext (sym (digit (test .before .before .args .n) (test .if1 .taken))) (c .before .before .byte .ensures)
 
-decimal-requires : (t : ℕ) → lts.Need-decimal-requires (calls t) (decimal-at t) decimal.Post
-decimal-requires t c κs = (omega arith, omega (arith, digits-length (c .before .before .before .args .n) (c .before .if1 .left)))
+  decimal-requires : lts.Need-decimal-requires calls decimal-at decimal.Post
+  decimal-requires c κs = (omega arith, omega (arith, digits-length (c .before .before .before .args .n) (c .before .if1 .left)))
 
-add-byte-2 : (t : ℕ) → lts.Need-add-byte-2 (calls t) (decimal-at t) decimal.Post
-add-byte-2 t c = search needs
+  add-byte-2 : lts.Need-add-byte-2 calls decimal-at decimal.Post
+  add-byte-2 c = search needs
 
-cast-byte-2 : (t : ℕ) → lts.Need-cast-byte-2 (calls t) (decimal-at t) decimal.Post
-cast-byte-2 t c = search needs
+  cast-byte-2 : lts.Need-cast-byte-2 calls decimal-at decimal.Post
+  cast-byte-2 c = search needs
 
-byte-requires-2 : (t : ℕ) → lts.Need-byte-requires-2 (calls t) (decimal-at t) decimal.Post
-byte-requires-2 t c κs =
-    let test = c .before .before .before .before .before in
-    omega (arith, digits-length (test .before .before .args .n) (test .if1 .left))
+  byte-requires-2 : lts.Need-byte-requires-2 calls decimal-at decimal.Post
+  byte-requires-2 c κs =
+      let test = c .before .before .before .before .before in
+      omega (arith, digits-length (test .before .before .args .n) (test .if1 .left))
 
-same-length-2 : (t : ℕ) → lts.Need-same-length-2 (calls t) (decimal-at t) decimal.Post
-same-length-2 t c = search needs
+  same-length-2 : lts.Need-same-length-2 calls decimal-at decimal.Post
+  same-length-2 c = search needs
 
-returns-2 : (t : ℕ) → lts.Need-returns-2 (calls t) (decimal-at t) decimal.Post
-returns-2 t c =
-    let first = c .before .before .before .before .before .before in
-    let a = first .before .before .before .before .args in
-    let more = first .before .before .if1 .left in
-    let room : a .place + length (digits (a .n / 10)) + 1 ≤ length (a .out .now) = omega (arith, digits-length (a .n) more) in
-    retext (sym (more-digits (a .n) more)) (then room (first .decimal .ensures) (c .before .before .byte2 .ensures))
+  returns-2 : lts.Need-returns-2 calls decimal-at decimal.Post
+  returns-2 c =
+      let first = c .before .before .before .before .before .before in
+      let a = first .before .before .before .before .args in
+      let more = first .before .before .if1 .left in
+      let room : a .place + length (digits (a .n / 10)) + 1 ≤ length (a .out .now) = omega (arith, digits-length (a .n) more) in
+      retext (sym (more-digits (a .n) more)) (then room (first .decimal .ensures) (c .before .before .byte2 .ensures))
 
 pub +decimal-spec : {M : Type 1} → statement M
 +decimal-spec = close μ-decimal λ t. lts.spec (calls t)
