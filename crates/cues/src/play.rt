@@ -35,7 +35,7 @@ fn fill(lines: &[u64], p: Plan, out: &mut [u64]) -> Counted
 {
     let place = range::place_of(lines, p.from);
     let first = range::part_from(lines, place, p.from, p.from + p.first);
-    let again = range::place_of(lines, p.start);
+    let again = range::place_from(lines, 0, p.start);
     let lap = range::part_from(lines, again, p.start, p.start + p.lap);
     let last = range::part_from(lines, again, p.start, p.start + p.last);
     match count::total(first.len(), lap.len(), p.laps, last.len(), out.len() / 2) {

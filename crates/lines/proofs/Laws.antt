@@ -6,5 +6,7 @@ pub use Rattle.lines.proofs.Order.{up-step}
 pub use Rattle.lines.proofs.Ranges.{fine-lines}
 -- a range line by line; a place, without the first line; no line is in an empty range
 pub use Rattle.lines.proofs.Ranges.{line-in, line-before, line-past, tail-splits, tail-none, none-between}
+-- where a place lies of which nothing is known
+pub use Rattle.lines.proofs.Searching.{anywhere}
 -- no two cases of the answer read alike
 pub use Rattle.lines.proofs.Readings.{lines-apart}

@@ -1,4 +1,5 @@
 pub mod Order
+pub mod Searching
 pub mod Ranges
 pub mod Readings
 pub mod Laws

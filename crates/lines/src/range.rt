@@ -1,11 +1,12 @@
-// A range of ascending lines, found by a binary search at each end.
+// A range of ascending lines: its start is found by a binary search, and its end by steps from there.
 use crate::LinesReport;
 ghost use mathlib.Core.Path.{_≡_};
 ghost use mathlib.Core.Bool.{true, cond};
 ghost use Prim.Native.Nat.{_≤_};
 ghost use lib.Dec.{ltb};
+ghost use lib.ListN.{length};
 ghost use Rattle.lines.specs.Lines.{ascends, linesAnswer, between, rangeOf};
-ghost use Rattle.lines.specs.Places.{Splits};
+ghost use Rattle.lines.specs.Places.{Splits, Bracket};
 ghost use Rattle.lines.specs.Readings.{readLines};
 
 // 1 where a line is less than the one before, else 0.
@@ -33,22 +34,49 @@ pub fn ascending(lines: &[u64]) -> bool
     falls == 0
 }
 
+// The place of the first line that is not before a frame, where it is known to lie from low to high.
+fn search(lines: &[u64], low: usize, high: usize, frame: u64) -> usize
+    requires { ⌜ (ascends (now lines) ≡ true) × Bracket frame (now lines) low high ⌝ }
+    ensures { λ r. ⌜ Splits frame (now (lines .entry)) r ⌝ }
+{
+    let mut least = low;
+    let mut most = high;
+    while least < most {
+        let middle = least + ((most - least) >> 1);
+        if lines[middle] < frame {
+            least = middle + 1;
+        } else {
+            most = middle;
+        }
+    }
+    least
+}
+
 // The place of the first line that is not before a frame; past the last where there is none.
 pub fn place_of(lines: &[u64], frame: u64) -> usize
     requires { ⌜ ascends (now lines) ≡ true ⌝ }
     ensures { λ r. ⌜ Splits frame (now (lines .entry)) r ⌝ }
 {
-    let mut low: usize = 0;
-    let mut high = lines.len();
-    while low < high {
-        let middle = low + ((high - low) >> 1);
-        if lines[middle] < frame {
-            low = middle + 1;
-        } else {
-            high = middle;
+    search(lines, 0, lines.len(), frame)
+}
+
+// The same where no earlier place than `from` is in question. The steps from there double until one
+// would go past the place, so a place that is near is found by a look or two.
+pub fn place_from(lines: &[u64], from: usize, frame: u64) -> usize
+    requires { ⌜ (ascends (now lines) ≡ true) × Bracket frame (now lines) from (length (now lines)) ⌝ }
+    ensures { λ r. ⌜ Splits frame (now (lines .entry)) r ⌝ }
+{
+    let mut low = from;
+    let mut step: usize = 1;
+    while step <= lines.len() - low {
+        let last = low + (step - 1);
+        if frame <= lines[last] {
+            return search(lines, low, last, frame);
         }
+        low = last + 1;
+        step += step;
     }
-    low
+    search(lines, low, lines.len(), frame)
 }
 
 // The lines from start, whose place is known, up to end.
@@ -59,7 +87,7 @@ pub fn part_from<'a>(lines: &'a [u64], place: usize, start: u64, end: u64) -> &'
     if start >= end {
         return &lines[..0];
     }
-    let upto = place_of(lines, end);
+    let upto = place_from(lines, place, end);
     &lines[place..upto]
 }
 

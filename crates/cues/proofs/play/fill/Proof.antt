@@ -2,6 +2,7 @@
 use mathlib.Core.Path.{sym, _∙_}
 use native.Mathlib.Omega.{arith}
 use borrow.Author.Needs.{needs}
+use Rattle.lines.proofs.Laws.{anywhere}
 use Rattle.cues.proofs.Filling.{Found, ends-few, count-is, none-left, first-writes, laps-write, last-writes, all-written}
 use Rattle.cues.proofs.play.fill.Statement.{statement}
 use Rattle.cues.proofs.play.fill.Tie as tie
@@ -11,6 +12,7 @@ use Rattle.cues.proofs.count.total.Reads as total-reads
 use Rattle.cues.proofs.write.laps.Reads as laps-reads
 use Rattle.cues.proofs.write.part.Reads as part-reads
 use Rattle.lines.proofs.range.part_from.Reads as part-from-reads
+use Rattle.lines.proofs.range.place_from.Reads as place-from-reads
 use Rattle.lines.proofs.range.place_of.Reads as place-of-reads
 
 -- what the calls below ask and give
@@ -20,6 +22,8 @@ calls = (
   place-of-reads.Learnt,
   part-from-reads.Asked,
   part-from-reads.Learnt,
+  place-from-reads.Asked,
+  place-from-reads.Learnt,
   total-reads.Asked,
   total-reads.Learnt,
   part-reads.Asked,
@@ -36,14 +40,14 @@ abbrev startOf : Searched → lts.Start calls reads.Pre reads.Post
 startOf c = c .before .before .before .before .before .before .before .before .before .before
 
 found : (c : Searched)
-    → Found (startOf c .args .lines .now) (startOf c .args .p) (c .before .before .before .before .before .before .before .place-of .result) (c .before .before .before .before .place-of2 .result)
+    → Found (startOf c .args .lines .now) (startOf c .args .p) (c .before .before .before .before .before .before .before .place-of .result) (c .before .before .before .before .place-from .result)
     (c .before .before .before .before .before .part-from .result .now) (c .before .before .part-from2 .result .now) (c .part-from3 .result .now)
 found c = record {
   up = startOf c .pre .0;
   few = startOf c .pre .1;
   fits = startOf c .pre .2;
   place-at = c .before .before .before .before .before .before .before .place-of .ensures;
-  again-at = c .before .before .before .before .place-of2 .ensures;
+  again-at = c .before .before .before .before .place-from .ensures;
   first-is = c .before .before .before .before .before .part-from .ensures;
   lap-is = c .before .before .part-from2 .ensures;
   last-is = c .part-from3 .ensures;
@@ -58,8 +62,10 @@ add-part-from c = search needs
 part-from-requires : tie.Need-part-from-requires
 part-from-requires c κs = search needs
 
-place-of-requires-2 : tie.Need-place-of-requires-2
-place-of-requires-2 c κs = search needs
+place-from-requires : tie.Need-place-from-requires
+place-from-requires c κs =
+    let s = c .before .before .before .before .before in
+    (s .pre .0, anywhere (s .args .p .start) (s .args .lines .now))
 
 add-part-from-2 : tie.Need-add-part-from-2
 add-part-from-2 c = search needs
@@ -149,7 +155,7 @@ fill-spec =
     place-of-requires
     add-part-from
     part-from-requires
-    place-of-requires-2
+    place-from-requires
     add-part-from-2
     part-from-requires-2
     add-part-from-3
