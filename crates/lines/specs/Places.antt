@@ -1,6 +1,6 @@
 -- The place of a frame among ascending lines.
 use mathlib.Core.List.{List}
-use Prim.Native.Nat.{ℕ, _≤_, _<_}
+use Prim.Native.Nat.{ℕ, _+_, _-_, _*_, _/_, _≤_, _<_}
 use lib.ListN.{length, getD}
 
 -- the lines before the place are below the frame, and the others are not
@@ -15,3 +15,7 @@ pub record Bracket (frame : ℕ) (lines : List ℕ) (low high : ℕ) : Type 0 wh
   pub within : high ≤ length lines
   pub below : (k : ℕ) → k < low → getD lines k 0 < frame
   pub from : (k : ℕ) → high ≤ k → k < length lines → frame ≤ getD lines k 0
+
+-- how many of so many lines are still in question behind three looks, which cut them into four parts
+abbrev pub afterCut : ℕ → ℕ
+afterCut size = size - 3 * ((size + 1) / 4)

@@ -1,19 +1,19 @@
-// A range of ascending lines: its start is found by a binary search, and its end by steps from there.
+// A range of ascending lines: its start is found by a search of them all, and its end by steps from there.
 use crate::LinesReport;
 ghost use mathlib.Core.Path.{_≡_};
 ghost use mathlib.Core.Bool.{true, cond};
-ghost use Prim.Native.Nat.{_≤_};
+ghost use Prim.Native.Nat.{_+_, _≤_};
 ghost use lib.Dec.{ltb};
 ghost use lib.ListN.{length};
 ghost use Rattle.lines.specs.Lines.{ascends, linesAnswer, between, rangeOf};
-ghost use Rattle.lines.specs.Places.{Splits, Bracket};
+ghost use Rattle.lines.specs.Places.{Splits, Bracket, afterCut};
 ghost use Rattle.lines.specs.Readings.{readLines};
 
-// 1 where a line is less than the one before, else 0.
-fn fall(before: u64, line: u64) -> usize
-    ensures { λ r. ⌜ (r ≡ cond (ltb line before) 1 0) × (r ≤ 1) ⌝ }
+// 1 where a line is less than a frame, else 0.
+fn less(line: u64, than: u64) -> usize
+    ensures { λ r. ⌜ (r ≡ cond (ltb line than) 1 0) × (r ≤ 1) ⌝ }
 {
-    if line < before { 1 } else { 0 }
+    if line < than { 1 } else { 0 }
 }
 
 // Whether no line is less than the one before. The falls are counted, and the first does not end the
@@ -27,11 +27,39 @@ pub fn ascending(lines: &[u64]) -> bool
     let mut place: usize = 0;
     while place < lines.len() {
         let line = lines[place];
-        falls += fall(low, line);
+        falls += less(line, low);
         low = line;
         place += 1;
     }
     falls == 0
+}
+
+// A place nearer to the first line that is not before a frame, which is at most `size` lines on. Three
+// looks cut these lines into four parts. No look waits for what another finds, and what they find is
+// added up: a choice of two ways at each line would be one that no processor foresees.
+fn cut(lines: &[u64], place: usize, size: usize, frame: u64) -> usize
+    requires { ⌜ (ascends (now lines) ≡ true) × (3 ≤ size) × Bracket frame (now lines) place (place + size) ⌝ }
+    ensures { λ r. ⌜ Bracket frame (now (lines .entry)) r (r + afterCut size) ⌝ }
+{
+    let part = (size + 1) >> 2;
+    let first = less(lines[place + part - 1], frame);
+    let second = less(lines[place + 2 * part - 1], frame);
+    let third = less(lines[place + 3 * part - 1], frame);
+    place + part * (first + second + third)
+}
+
+// The place itself, line by line, where few lines are in question.
+fn walk(lines: &[u64], low: usize, size: usize, frame: u64) -> usize
+    requires { ⌜ (ascends (now lines) ≡ true) × Bracket frame (now lines) low (low + size) ⌝ }
+    ensures { λ r. ⌜ Splits frame (now (lines .entry)) r ⌝ }
+{
+    let mut place = low;
+    let mut left = size;
+    while 0 < left {
+        place += less(lines[place], frame);
+        left -= 1;
+    }
+    place
 }
 
 // The place of the first line that is not before a frame, where it is known to lie from low to high.
@@ -39,17 +67,13 @@ fn search(lines: &[u64], low: usize, high: usize, frame: u64) -> usize
     requires { ⌜ (ascends (now lines) ≡ true) × Bracket frame (now lines) low high ⌝ }
     ensures { λ r. ⌜ Splits frame (now (lines .entry)) r ⌝ }
 {
-    let mut least = low;
-    let mut most = high;
-    while least < most {
-        let middle = least + ((most - least) >> 1);
-        if lines[middle] < frame {
-            least = middle + 1;
-        } else {
-            most = middle;
-        }
+    let mut place = low;
+    let mut size = high - low;
+    while 2 < size {
+        place = cut(lines, place, size, frame);
+        size -= 3 * ((size + 1) >> 2);
     }
-    least
+    walk(lines, place, size, frame)
 }
 
 // The place of the first line that is not before a frame; past the last where there is none.

@@ -26,8 +26,8 @@ mul-line c = search needs
 shared-slice-read-line : tie.Need-shared-slice-read-line Inv-loop μ-loop
 shared-slice-read-line c = search needs
 
-fall-requires : tie.Need-fall-requires Inv-loop μ-loop
-fall-requires c κs = search needs
+less-requires : tie.Need-less-requires Inv-loop μ-loop
+less-requires c κs = search needs
 
 add-falls : tie.Need-add-falls Inv-loop μ-loop
 add-falls c = search needs
@@ -42,7 +42,7 @@ loop-again : tie.Need-loop-again Inv-loop μ-loop
 loop-again c =
     let l = c .before .before .before .loop in
     let a = c .before .before .before .before .before .args in
-    (omega arith, (omega arith, one-more (a .lines .now) (l .low) (l .place) (l .falls) (c .fall .result) (search needs) (c .fall .ensures .0) ∙ l .inv .1 .1))
+    (omega arith, (omega arith, one-more (a .lines .now) (l .low) (l .place) (l .falls) (c .less .result) (search needs) (c .less .ensures .0) ∙ l .inv .1 .1))
 
 returns : tie.Need-returns Inv-loop μ-loop
 returns c =
@@ -58,7 +58,7 @@ ascending-spec =
     loop-holds
     mul-line
     shared-slice-read-line
-    fall-requires
+    less-requires
     add-falls
     add-place
     loop-less
