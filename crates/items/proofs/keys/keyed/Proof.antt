@@ -1,7 +1,7 @@
 -- By the first key that the word is.
 use mathlib.Core.Path.{sym, _∙_}
 use borrow.Author.Needs.{needs}
-use Rattle.items.proofs.Tests.{key-rate, key-beats, key-tempo, key-pickup, key-meter, key-none}
+use Rattle.items.specs.Items.{keyItem}
 use Rattle.items.proofs.keys.keyed.Statement.{statement}
 use Rattle.items.proofs.keys.keyed.Tie as tie
 
@@ -15,7 +15,8 @@ rate-requires : tie.Need-rate-requires
 rate-requires c κs = search needs
 
 returns : tie.Need-returns
-returns c = c .rate .ensures ∙ key-rate _ _ (sym (c .before .before .same .ensures) ∙ c .before .if1 .taken)
+unfolding keyItem
+returns c = rw (sym (c .before .before .same .ensures) ∙ c .before .if1 .taken) (c .rate .ensures)
 
 slice-aggregate-same-2 : tie.Need-slice-aggregate-same-2
 slice-aggregate-same-2 c = search needs
@@ -27,9 +28,8 @@ beats-requires : tie.Need-beats-requires
 beats-requires c κs = search needs
 
 returns-2 : tie.Need-returns-2
-returns-2 c =
-    c .beats .ensures ∙ key-beats _ _ (sym (c .before .before .before .before .before .same .ensures) ∙ c .before .before .before .before .if1 .left)
-    (sym (c .before .before .same2 .ensures) ∙ c .before .if2 .taken)
+unfolding keyItem
+returns-2 c = let a = c .before .before .before .before in rw (sym (a .before .same .ensures) ∙ a .if1 .left, sym (c .before .before .same2 .ensures) ∙ c .before .if2 .taken) (c .beats .ensures)
 
 slice-aggregate-same-3 : tie.Need-slice-aggregate-same-3
 slice-aggregate-same-3 c = search needs
@@ -41,10 +41,11 @@ tempo-requires : tie.Need-tempo-requires
 tempo-requires c κs = search needs
 
 returns-3 : tie.Need-returns-3
+unfolding keyItem
 returns-3 c =
-    c .tempo .ensures ∙ key-tempo _ _ (sym (c .before .before .before .before .before .before .before .before .same .ensures)
-    ∙ c .before .before .before .before .before .before .before .if1 .left) (sym (c .before .before .before .before .before .same2 .ensures)
-    ∙ c .before .before .before .before .if2 .left) (sym (c .before .before .same3 .ensures) ∙ c .before .if3 .taken)
+    let b = c .before .before .before .before in
+    let a = b .before .before .before in
+    rw (sym (a .before .same .ensures) ∙ a .if1 .left, sym (b .before .same2 .ensures) ∙ b .if2 .left, sym (c .before .before .same3 .ensures) ∙ c .before .if3 .taken) (c .tempo .ensures)
 
 slice-aggregate-same-4 : tie.Need-slice-aggregate-same-4
 slice-aggregate-same-4 c = search needs
@@ -56,12 +57,12 @@ pickup-requires : tie.Need-pickup-requires
 pickup-requires c κs = search needs
 
 returns-4 : tie.Need-returns-4
+unfolding keyItem
 returns-4 c =
-    c .pickup .ensures ∙ key-pickup _ _ (sym (c .before .before .before .before .before .before .before .before .before .before .before .same .ensures)
-    ∙ c .before .before .before .before .before .before .before .before .before .before .if1 .left)
-    (sym (c .before .before .before .before .before .before .before .before .same2 .ensures)
-    ∙ c .before .before .before .before .before .before .before .if2 .left) (sym (c .before .before .before .before .before .same3 .ensures)
-    ∙ c .before .before .before .before .if3 .left) (sym (c .before .before .same4 .ensures) ∙ c .before .if4 .taken)
+    let d = c .before .before .before .before in
+    let b = d .before .before .before in
+    let a = b .before .before .before in
+    rw (sym (a .before .same .ensures) ∙ a .if1 .left, sym (b .before .same2 .ensures) ∙ b .if2 .left, sym (d .before .same3 .ensures) ∙ d .if3 .left, sym (c .before .before .same4 .ensures) ∙ c .before .if4 .taken) (c .pickup .ensures)
 
 slice-aggregate-same-5 : tie.Need-slice-aggregate-same-5
 slice-aggregate-same-5 c = search needs
@@ -73,24 +74,22 @@ meter-requires : tie.Need-meter-requires
 meter-requires c κs = search needs
 
 returns-5 : tie.Need-returns-5
+unfolding keyItem
 returns-5 c =
-    c .meter .ensures ∙ key-meter _ _
-    (sym (c .before .before .before .before .before .before .before .before .before .before .before .before .before .before .same .ensures)
-    ∙ c .before .before .before .before .before .before .before .before .before .before .before .before .before .if1 .left)
-    (sym (c .before .before .before .before .before .before .before .before .before .before .before .same2 .ensures)
-    ∙ c .before .before .before .before .before .before .before .before .before .before .if2 .left)
-    (sym (c .before .before .before .before .before .before .before .before .same3 .ensures)
-    ∙ c .before .before .before .before .before .before .before .if3 .left) (sym (c .before .before .before .before .before .same4 .ensures)
-    ∙ c .before .before .before .before .if4 .left) (sym (c .before .before .same5 .ensures) ∙ c .before .if5 .taken)
+    let e = c .before .before .before .before in
+    let d = e .before .before .before in
+    let b = d .before .before .before in
+    let a = b .before .before .before in
+    rw (sym (a .before .same .ensures) ∙ a .if1 .left, sym (b .before .same2 .ensures) ∙ b .if2 .left, sym (d .before .same3 .ensures) ∙ d .if3 .left, sym (e .before .same4 .ensures) ∙ e .if4 .left, sym (c .before .before .same5 .ensures) ∙ c .before .if5 .taken) (c .meter .ensures)
 
 returns-6 : tie.Need-returns-6
+unfolding keyItem
 returns-6 c =
-    key-none _ _ (sym (c .before .before .before .before .before .before .before .before .before .before .before .before .before .same .ensures)
-    ∙ c .before .before .before .before .before .before .before .before .before .before .before .before .if1 .left)
-    (sym (c .before .before .before .before .before .before .before .before .before .before .same2 .ensures)
-    ∙ c .before .before .before .before .before .before .before .before .before .if2 .left)
-    (sym (c .before .before .before .before .before .before .before .same3 .ensures) ∙ c .before .before .before .before .before .before .if3 .left)
-    (sym (c .before .before .before .before .same4 .ensures) ∙ c .before .before .before .if4 .left) (sym (c .before .same5 .ensures) ∙ c .if5 .left)
+    let e = c .before .before .before in
+    let d = e .before .before .before in
+    let b = d .before .before .before in
+    let a = b .before .before .before in
+    rw (sym (a .before .same .ensures) ∙ a .if1 .left, sym (b .before .same2 .ensures) ∙ b .if2 .left, sym (d .before .same3 .ensures) ∙ d .if3 .left, sym (e .before .same4 .ensures) ∙ e .if4 .left, sym (c .before .same5 .ensures) ∙ c .if5 .left)
 
 pub keyed-spec : {M : Type 1} → statement M
 keyed-spec =

@@ -11,7 +11,7 @@ until-requires : tie.Need-until-requires
 until-requires c κs = search needs
 
 returns : tie.Need-returns
-returns c = no-slash (c .before .before .before .args .bar) (c .before .before .before .args .word .now) (c .before .until .result) (c .before .until .ensures .0) (c .if1 .taken)
+returns c = no-slash _ _ _ (c .before .until .ensures .0) (c .if1 .taken)
 
 add-behind : tie.Need-add-behind
 add-behind c = omega arith
@@ -55,34 +55,24 @@ enum-known-den c = search needs
 returns-2 : tie.Need-returns-2
 unfolding meterBy
 returns-2 c =
-    over-is (c .before .before .before .before .before .before .before .before .args .bar)
-    (c .before .before .before .before .before .before .before .before .args .word .now)
-    (c .before .before .before .before .before .before .until .result) (c .before .before .before .before .before .before .until .ensures .0)
-    (c .before .before .before .before .before .if1 .left) (sym (c .before .reason .given .1) ∙ c .before .before .before .number .ensures) refl
+    let n = c .before .before .before in
+    over-is _ _ _ (n .before .before .before .until .ensures .0) (n .before .before .if1 .left) (sym (c .before .reason .given .1) ∙ n .number .ensures) refl
 
 returns-3 : tie.Need-returns-3
 unfolding meterBy
 returns-3 c =
-    over-is (c .before .before .before .before .before .before .before .before .before .before .before .before .before .args .bar)
-    (c .before .before .before .before .before .before .before .before .before .before .before .before .before .args .word .now)
-    (c .before .before .before .before .before .before .before .before .before .before .before .until .result)
-    (c .before .before .before .before .before .before .before .before .before .before .before .until .ensures .0)
-    (c .before .before .before .before .before .before .before .before .before .before .if1 .left)
-    (sym (c .before .before .before .before .before .before .num .given .1)
-    ∙ c .before .before .before .before .before .before .before .before .number .ensures) (sym (c .before .reason2 .given .1)
-    ∙ c .before .before .before .number2 .ensures)
+    let m = c .before .before .before .before .before .before in
+    let n = m .before .before in
+    over-is _ _ _ (n .before .before .before .until .ensures .0) (n .before .before .if1 .left) (sym (m .num .given .1) ∙ n .number .ensures)
+    (sym (c .before .reason2 .given .1) ∙ c .before .before .before .number2 .ensures)
 
 returns-4 : tie.Need-returns-4
 unfolding meterBy
 returns-4 c =
-    over-is (c .before .before .before .before .before .before .before .before .before .before .before .before .before .args .bar)
-    (c .before .before .before .before .before .before .before .before .before .before .before .before .before .args .word .now)
-    (c .before .before .before .before .before .before .before .before .before .before .before .until .result)
-    (c .before .before .before .before .before .before .before .before .before .before .before .until .ensures .0)
-    (c .before .before .before .before .before .before .before .before .before .before .if1 .left)
-    (sym (c .before .before .before .before .before .before .num .given .1)
-    ∙ c .before .before .before .before .before .before .before .before .number .ensures) (sym (c .before .den .given .1)
-    ∙ c .before .before .before .number2 .ensures)
+    let m = c .before .before .before .before .before .before in
+    let n = m .before .before in
+    over-is _ _ _ (n .before .before .before .until .ensures .0) (n .before .before .if1 .left) (sym (m .num .given .1) ∙ n .number .ensures)
+    (sym (c .before .den .given .1) ∙ c .before .before .before .number2 .ensures)
 
 pub meter-over-spec : {M : Type 1} → statement M
 meter-over-spec =
