@@ -72,28 +72,30 @@ module _ (t : Transport) (words : List ℕ) (nums : List ℤ) (dens tempos : Lis
         tempo = s;
       }
 
-  module _ (n : ℕ) (out : List ℕ) (seg : Segment) (beat : Float) (stand : Stand) (k : ℕ) (f : Filled n out seg beat stand k) where
-    pub filled-all : length out ≤ k → out ≡ barLines t (pointsOf words) (tempoPoints nums dens tempos) n
-    filled-all h = are-entries line out (λ j l. f .below j (omega arith)) ∙ ap (entries line 0) (f .long)
+module _ {t : Transport} {words : List ℕ} {nums : List ℤ} {dens tempos : List ℕ} {n : ℕ} {out : List ℕ} {seg : Segment} {beat : Float} {stand : Stand} {k : ℕ}
+    (f : Filled t words nums dens tempos n out seg beat stand k) where
+  pub filled-all : length out ≤ k → out ≡ barLines t (pointsOf words) (tempoPoints nums dens tempos) n
+  filled-all h = let at = line t words nums dens tempos in are-entries at out (λ j l. f .below j (omega arith)) ∙ ap (entries at 0) (f .long)
 
-    module _ (inside : k < length out) where
-      pub mark-here : getD out k 0 ≡ markOf (pointsOf words) k
-      mark-here = f .marks k (omega arith) (omega (arith, f .long))
+  module _ (inside : k < length out) where
+    pub mark-here : getD out k 0 ≡ markOf (pointsOf words) k
+    mark-here = f .marks k (omega arith) (omega (arith, f .long))
 
-      -- what the calls of one turn ensure
-      module _ (seg' : Segment) (start : Beat) (next : Float) (stand' : Stand) (v : ℕ)
-          (has : Has (pointsOf words) (t .«beats_per_bar») (t .pickup) k seg') (e : start ≡ startIn seg' k) (g : next ≡ floatOf start)
-          (stopped : Stopped nums dens tempos next stand') (is : v ≡ frameAtBeat t (tempoPoints nums dens tempos) next) where
-        value : v ≡ line k
-        unfolding frameAtBar
-        value = is ∙ ap (frameAtBeat t (tempoPoints nums dens tempos)) (g ∙ ap floatOf (e ∙ has .start))
+    -- what the calls of one turn ensure
+    module _ {seg' : Segment} {start : Beat} {next : Float} {stand' : Stand} {v : ℕ}
+        (has : Has (pointsOf words) (t .«beats_per_bar») (t .pickup) k seg') (e : start ≡ startIn seg' k) (g : next ≡ floatOf start)
+        (stopped : Stopped nums dens tempos next stand') (is : v ≡ frameAtBeat t (tempoPoints nums dens tempos) next) where
+      value : v ≡ line t words nums dens tempos k
+      unfolding frameAtBar
+      value = is ∙ ap (frameAtBeat t (tempoPoints nums dens tempos)) (g ∙ ap floatOf (e ∙ has .start))
 
-        pub filled-more : Filled n (set out k v) seg' next stand' (k + 1)
-        filled-more =
-            record {
-              long = length-set out k v ∙ f .long;
-              below = below-more (λ (j : ℕ). getD (set out k v) j 0 ≡ line j) k (λ j l. getD-set-other out k j v 0 (ne-of-lt l) ∙ f .below j l) (getD-set-same out k v 0 inside ∙ value);
-              marks = λ j h l. getD-set-other out k j v 0 (λ d. omega arith) ∙ f .marks j (omega arith) l;
-              segment = has .next;
-              tempo = stopped .serves;
-            }
+      pub filled-more : Filled t words nums dens tempos n (set out k v) seg' next stand' (k + 1)
+      filled-more =
+          record {
+            long = length-set out k v ∙ f .long;
+            below = below-more (λ (j : ℕ). getD (set out k v) j 0 ≡ line t words nums dens tempos j) k (λ j l. getD-set-other out k j v 0 (ne-of-lt l) ∙ f .below j l)
+                (getD-set-same out k v 0 inside ∙ value);
+            marks = λ j h l. getD-set-other out k j v 0 (λ d. omega arith) ∙ f .marks j (omega arith) l;
+            segment = has .next;
+            tempo = stopped .serves;
+          }

@@ -40,7 +40,7 @@ module _ (t : Transport) (words : List ℕ) (nums : List ℤ) (dens tempos out :
   abbrev finding : MapTest
   finding = worse (linesTest (length out)) (mapsTest words nums dens tempos)
 
-  module _ (test : Test) (e : test ≡ testOf t finding) where
+  module _ {test : Test} (e : test ≡ testOf t finding) where
     -- the tempo map is sound, and there are not too many lines
     known : test ≡ Passed → (mapTest nums dens tempos ≡ Sound) × (length out ≤ 65536)
     unfolding mapsTest
@@ -60,4 +60,4 @@ module _ (t : Transport) (words : List ℕ) (nums : List ℤ) (dens tempos out :
 
   -- the same of a call that is accepted
   pub accepted-known : fillAnswer t words nums dens tempos out ≡ done → (mapTest nums dens tempos ≡ Sound) × (length out ≤ 65536)
-  accepted-known a = known (testOf t finding) refl (only-passed (testOf t finding) (answered (testOf t finding) refl ∙ a))
+  accepted-known a = known refl (only-passed (testOf t finding) (answered refl ∙ a))

@@ -2,7 +2,6 @@
 use mathlib.Core.Path.{sym, _∙_}
 use borrow.Author.Needs.{needs}
 use denote.Ref.{now}
-use Rattle.timeline.specs.declared.tests.Test.the-variants.{Sound as Passed, Refused}
 use Rattle.filler.proofs.Testing.{passed, answered, after}
 use Rattle.filler.proofs.fill_lines.Statement.{statement}
 use Rattle.filler.proofs.fill_lines.Tie as tie
@@ -18,27 +17,23 @@ enum-told c = search needs
 
 fill-requires : tie.Need-fill-requires
 fill-requires c κs =
-    let a = c .before .before .before .before .before .before .before .before .args in
-    passed (a .t) (now (a .words)) (now (a .nums)) (now (a .dens)) (now (a .tempos)) (now (a .out)) _ (c .before .before .before .test .ensures) (c .before .enum-told .given .1)
+    let out = now (c .before .before .before .before .before .before .before .before .args .out) in
+    passed _ _ _ _ _ out (c .before .before .before .test .ensures) (c .before .enum-told .given .1)
 
 returns : tie.Need-returns
 returns c =
-    let a = c .before .before .before .before .before .before .before .before .args in
-    let e = sym (c .before .why .given .1) ∙ c .before .before .before .test .ensures in (
-      answered (a .t) (now (a .words)) (now (a .nums)) (now (a .dens)) (now (a .tempos)) (now (a .out)) (Refused _) e,
-      after (a .t) (now (a .words)) (now (a .nums)) (now (a .dens)) (now (a .tempos)) (now (a .out)) (Refused _) e,
-    )
+    let out = now (c .before .before .before .before .before .before .before .before .args .out) in
+    let e = sym (c .before .why .given .1) ∙ c .before .before .before .test .ensures in
+    (answered _ _ _ _ _ out e, after _ _ _ _ _ out e)
 
 same-length : tie.Need-same-length
 same-length c = search needs
 
 returns-2 : tie.Need-returns-2
 returns-2 c =
-    let a = c .before .before .before .before .before .before .before .before .before .before .before .args in
-    let e = sym (c .before .before .before .before .enum-told .given .1) ∙ c .before .before .before .before .before .before .test .ensures in (
-      answered (a .t) (now (a .words)) (now (a .nums)) (now (a .dens)) (now (a .tempos)) (now (a .out)) Passed e,
-      c .before .before .fill .ensures ∙ after (a .t) (now (a .words)) (now (a .nums)) (now (a .dens)) (now (a .tempos)) (now (a .out)) Passed e,
-    )
+    let out = now (c .before .before .before .before .before .before .before .before .before .before .before .args .out) in
+    let e = sym (c .before .before .before .before .enum-told .given .1) ∙ c .before .before .before .before .before .before .test .ensures in
+    (answered _ _ _ _ _ out e, c .before .before .fill .ensures ∙ after _ _ _ _ _ out e)
 
 pub fill-lines-spec : {M : Type 1} → statement M
 fill-lines-spec =

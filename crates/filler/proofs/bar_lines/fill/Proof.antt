@@ -44,11 +44,7 @@ slice-read-on-to : tie.Need-slice-read-on-to Inv-loop μ-loop
 slice-read-on-to c = search needs
 
 on-to-requires : tie.Need-on-to-requires Inv-loop μ-loop
-on-to-requires c κs =
-    let s = c .before .before .before .before .before .before .before .before .before .before .before .before .before in
-    let a = s .args in
-    let l = c .before .before .loop in
-    (l .inv .segment, mark-here (a .t) (now (a .words)) (now (a .nums)) (now (a .dens)) (now (a .tempos)) _ (l .out) (l .seg) (l .beat) (l .stand) (l .k) (l .inv) (c .before .loop-test .taken))
+on-to-requires c κs = let l = c .before .before .loop in (l .inv .segment, mark-here (l .inv) (c .before .loop-test .taken))
 
 start-in-requires : tie.Need-start-in-requires Inv-loop μ-loop
 start-in-requires c κs =
@@ -89,11 +85,9 @@ loop-less c = omega (arith, c .before .before .before .before .before .before .b
 
 loop-again : tie.Need-loop-again Inv-loop μ-loop
 loop-again c =
-    let s = c .before .before .before .before .before .before .before .before .before .before .before .before .before .before .before .before .before .before in
-    let a = s .args in
-    let l = c .before .before .before .before .before .before .before .loop in
-    filled-more (a .t) (now (a .words)) (now (a .nums)) (now (a .dens)) (now (a .tempos)) _ (l .out) (l .seg) (l .beat) (l .stand) (l .k) (l .inv) (c .before .before .before .before .before .before .loop-test .taken)
-    _ _ _ _ _ (c .before .before .before .before .on-to .ensures) (c .before .before .before .start-in .ensures) (c .before .before .float-of .ensures) (c .before .go-to .ensures) (c .frame-at .ensures)
+    let turn = c .before .before .before .before .before .before in
+    filled-more (turn .before .loop .inv) (turn .loop-test .taken) (c .before .before .before .before .on-to .ensures) (c .before .before .before .start-in .ensures)
+    (c .before .before .float-of .ensures) (c .before .go-to .ensures) (c .frame-at .ensures)
 
 same-length : tie.Need-same-length Inv-loop μ-loop
 same-length c = search needs
@@ -102,8 +96,7 @@ returns : tie.Need-returns Inv-loop μ-loop
 returns c =
     let s = c .before .before .before .before .before .before .before .before .before .before .before .before in
     let a = s .args in
-    let l = c .before .loop in
-    filled-all (a .t) (now (a .words)) (now (a .nums)) (now (a .dens)) (now (a .tempos)) _ (l .out) (l .seg) (l .beat) (l .stand) (l .k) (l .inv) (c .loop-test .left)
+    filled-all (c .before .loop .inv) (c .loop-test .left)
     ∙ ap (barLines (a .t) (pointsOf (now (a .words))) (tempoPoints (now (a .nums)) (now (a .dens)) (now (a .tempos)))) (c .before .before .before .before .before .before .mark .ensures .long)
 
 pub fill-spec : {M : Type 1} → statement M
