@@ -62,7 +62,12 @@ returns-4 c =
     let d = c .before .before .before .before in
     let b = d .before .before .before in
     let a = b .before .before .before in
-    rw (sym (a .before .same .ensures) ∙ a .if1 .left, sym (b .before .same2 .ensures) ∙ b .if2 .left, sym (d .before .same3 .ensures) ∙ d .if3 .left, sym (c .before .before .same4 .ensures) ∙ c .before .if4 .taken) (c .pickup .ensures)
+    rw (
+      sym (a .before .same .ensures) ∙ a .if1 .left,
+      sym (b .before .same2 .ensures) ∙ b .if2 .left,
+      sym (d .before .same3 .ensures) ∙ d .if3 .left,
+      sym (c .before .before .same4 .ensures) ∙ c .before .if4 .taken,
+    ) (c .pickup .ensures)
 
 slice-aggregate-same-5 : tie.Need-slice-aggregate-same-5
 slice-aggregate-same-5 c = search needs
@@ -80,7 +85,13 @@ returns-5 c =
     let d = e .before .before .before in
     let b = d .before .before .before in
     let a = b .before .before .before in
-    rw (sym (a .before .same .ensures) ∙ a .if1 .left, sym (b .before .same2 .ensures) ∙ b .if2 .left, sym (d .before .same3 .ensures) ∙ d .if3 .left, sym (e .before .same4 .ensures) ∙ e .if4 .left, sym (c .before .before .same5 .ensures) ∙ c .before .if5 .taken) (c .meter .ensures)
+    rw (
+      sym (a .before .same .ensures) ∙ a .if1 .left,
+      sym (b .before .same2 .ensures) ∙ b .if2 .left,
+      sym (d .before .same3 .ensures) ∙ d .if3 .left,
+      sym (e .before .same4 .ensures) ∙ e .if4 .left,
+      sym (c .before .before .same5 .ensures) ∙ c .before .if5 .taken,
+    ) (c .meter .ensures)
 
 returns-6 : tie.Need-returns-6
 unfolding keyItem
@@ -89,7 +100,13 @@ returns-6 c =
     let d = e .before .before .before in
     let b = d .before .before .before in
     let a = b .before .before .before in
-    rw (sym (a .before .same .ensures) ∙ a .if1 .left, sym (b .before .same2 .ensures) ∙ b .if2 .left, sym (d .before .same3 .ensures) ∙ d .if3 .left, sym (e .before .same4 .ensures) ∙ e .if4 .left, sym (c .before .same5 .ensures) ∙ c .if5 .left)
+    rw (
+      sym (a .before .same .ensures) ∙ a .if1 .left,
+      sym (b .before .same2 .ensures) ∙ b .if2 .left,
+      sym (d .before .same3 .ensures) ∙ d .if3 .left,
+      sym (e .before .same4 .ensures) ∙ e .if4 .left,
+      sym (c .before .same5 .ensures) ∙ c .if5 .left,
+    )
 
 pub keyed-spec : {M : Type 1} → statement M
 keyed-spec =
