@@ -24,7 +24,7 @@ passed true next u e = refl
 passed false next u e = absurd (let z : _≡_ {A = ℕ} 0 1 = cc in omega arith)
 
 -- a sound clock is a clock
-is-clock : (words : List ℕ) → sound (clockOf words) ≡ true → clockWords words ≡ true
+pub is-clock : (words : List ℕ) → sound (clockOf words) ≡ true → clockWords words ≡ true
 is-clock words s = go (clockWords words) refl
   where
     go : (q : Bool) → clockWords words ≡ q → clockWords words ≡ true

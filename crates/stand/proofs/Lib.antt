@@ -1,4 +1,5 @@
 pub mod Answers
 pub mod Calls
 pub mod Carrying
+pub mod Blocks
 pub mod Laws
