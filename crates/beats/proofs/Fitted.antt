@@ -1,6 +1,6 @@
 -- The one test for 2: both numbers are looked at as they stand, before they are reduced.
 use mathlib.Core.Path.{_≡_, sym, ap, _∙_}
-use mathlib.Core.Bool.{Bool, true, false, cond, _&&_}
+use mathlib.Core.Bool.{Bool, true, false, cond, _&&_, and-false}
 use mathlib.Core.List.{[]}
 use Prim.Native.Nat.{ℕ, _*_, _<_, _≤_}
 use lib.Dec.{leb}
@@ -10,7 +10,7 @@ use Rattle.numbers.specs.declared.exact.Exact.{Exact}
 use Rattle.numbers.specs.Answers.{accepted, refused}
 use Rattle.numbers.specs.Signs.{inI64, toI64}
 use Rattle.numbers.specs.Exacts.{valueOf, exactOf}
-use Rattle.numbers.proofs.Laws.{unstopped, valued, and-false}
+use Rattle.numbers.proofs.Laws.{unstopped, valued}
 use Rattle.beats.specs.declared.Beat.{Beat}
 use Rattle.beats.specs.Beats.{newBeat}
 use Rattle.beats.specs.Sums.{storable, fitted}

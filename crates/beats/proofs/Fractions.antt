@@ -2,7 +2,7 @@
 use mathlib.Core.Path.{_≡_, refl, sym, ap, _∙_}
 use mathlib.Core.Bool.{true, false, _&&_}
 use Prim.Native.Nat.{ℕ, _+_, _*_, _<_, _≤_}
-use native.Mathlib.Nat.{add-le-add, mul-le-mul, mul-le-mul-right, mul-pos, mul-le-mul-left, le-of-mul-le-mul-right, le-of-dvd, le-of-eq, le-trans}
+use native.Mathlib.Nat.{add-le-add, mul-le-mul, mul-le-mul-right, mul-pos, mul-le-mul-left, le-of-mul-le-mul-right, le-of-dvd, le-of-eq, le-trans, mul-assoc, mul-right-comm}
 use native.Mathlib.Omega.{arith}
 use lib.Dec.{eqb}
 use borrow.Author.Tests.{le-leb}
@@ -113,8 +113,8 @@ module _ (a b : Beat) (x y d e : ℕ) (hd : 0 < d) (he : 0 < e) (p : Is a x d) (
       ∙ small-accepted (u * b .den + w * a .den) (a .den * b .den)
       (le-trans (add-le-add (mul-le-mul (value-num a x d hd (p .value) (p .fine)) qd) (mul-le-mul (value-num b y e he (q .value) (q .fine)) pd)) sized)
       (le-trans (mul-le-mul pd qd) fine) in
-      let pv : Is a (x * e) (d * e) = is-same x (x * e) d (d * e) hd (left x d e) p in
-      let qv : Is b (y * d) (d * e) = is-same y (y * d) e (d * e) he (right y d e) q in (
+      let pv : Is a (x * e) (d * e) = is-same x (x * e) d (d * e) hd (sym (mul-assoc x d e) ∙ mul-right-comm x d e) p in
+      let qv : Is b (y * d) (d * e) = is-same y (y * d) e (d * e) he (sym (mul-assoc y d e)) q in (
         c,
         (
           r,
@@ -124,9 +124,3 @@ module _ (a b : Beat) (x y d e : ℕ) (hd : 0 < d) (he : 0 < e) (p : Is a x d) (
           },
         ),
       )
-    where
-      left : (i j k : ℕ) → i * (j * k) ≡ i * k * j
-      left i j k = omega arith
-
-      right : (i j k : ℕ) → i * (j * k) ≡ i * j * k
-      right i j k = omega arith

@@ -2,7 +2,7 @@
 use mathlib.Core.Path.{_≡_, refl, sym, ap, _∙_, subst}
 use mathlib.Core.Bool.{true}
 use Prim.Native.Nat.{ℕ, zero, suc, max, _*_, _/_, _<_, _∣_}
-use native.Mathlib.Nat.{zero-div, div-self, zero-mul, div-one, le-div-iff-mul-le, div-mul-cancel, dvd-mul-left}
+use native.Mathlib.Nat.{zero-div, div-self, zero-mul, div-one, le-div-iff-mul-le, div-mul-cancel, dvd-mul-left, mul-assoc, mul-right-comm}
 use native.Mathlib.Omega.{arith}
 use lib.IntN.{ℤ, pos, negsuc, negℤ, natAbs, _*ℤ_}
 use lib.Signed.{quotZ}
@@ -32,11 +32,8 @@ cross : (a d : ℕ) → a / gcdOf a d * d ≡ a * (d / gcdOf a d)
 cross a d =
     let g = gcdOf a d in
     ap (λ (n : ℕ). a / g * n) (sym (div-mul-cancel g (gcd-right a d)))
-    ∙ swap (a / g) (d / g) g
+    ∙ sym (mul-assoc (a / g) (d / g) g) ∙ mul-right-comm (a / g) (d / g) g
     ∙ ap (λ (n : ℕ). n * (d / g)) (div-mul-cancel g (gcd-left a d))
-  where
-    swap : (x y z : ℕ) → x * (y * z) ≡ x * z * y
-    swap x y z = omega arith
 
 minus-times : (k d : ℕ) → negℤ (pos k) *ℤ pos d ≡ negℤ (pos (k * d))
 minus-times zero d = rw (zero-mul d)

@@ -3,7 +3,7 @@ use mathlib.Core.Path.{_≡_, refl, sym, ap, _∙_, subst}
 use mathlib.Core.Bool.{Bool, true, false}
 use mathlib.Core.List.{List, [], _∷_}
 use Prim.Native.Nat.{ℕ, zero, suc, min, max, _+_, _-_, _*_, _<_, _≤_}
-use native.Mathlib.Nat.{le-refl}
+use native.Mathlib.Nat.{le-refl, min-eq-left, min-eq-right}
 use native.Mathlib.Omega.{arith}
 use lib.Dec.{eqb}
 use lib.ListN.{length, getD}
@@ -83,11 +83,8 @@ next-here (point ∷ rest) first bar c h =
     by-order first (point .bar)
     (λ l.
     let m : bar ≤ point .bar = c .0 l in
-    ap (nextChange rest first) (nearer-above (point .bar) first bar l ∙ least (point .bar) bar m) ∙ next-here rest first bar (c .1) h)
+    ap (nextChange rest first) (nearer-above (point .bar) first bar l ∙ min-eq-right m) ∙ next-here rest first bar (c .1) h)
     (λ l. ap (nextChange rest first) (nearer-else (point .bar) first bar l) ∙ next-here rest first bar (c .1) h)
-  where
-    least : (x y : ℕ) → y ≤ x → min x y ≡ y
-    least x y g = omega arith
 
 next-more : (count : ℕ) (map : List MeterPoint) (first bar end : ℕ) → Clear first bar map → first < bar → bar ≤ end → 0 < markFrom count map bar 0 → nextChange map first end ≡ bar
 unfolding nextChange markFrom
@@ -95,7 +92,7 @@ next-more count [] first bar end c h l m = absurd (omega arith)
 next-more count (point ∷ rest) first bar end c h l m =
     by-bar (point .bar) bar
     (λ own.
-    let k : nearer (point .bar) first end ≡ bar = nearer-above (point .bar) first end (omega arith) ∙ least (point .bar) end (omega arith) ∙ own in
+    let k : nearer (point .bar) first end ≡ bar = nearer-above (point .bar) first end (omega arith) ∙ min-eq-left {n = point .bar} {m = end} (omega arith) ∙ own in
     ap (nextChange rest first) k ∙ next-here rest first bar (c .1) h)
     (λ other.
     next-more (suc count) rest first bar (nearer (point .bar) first end) (c .1) h
@@ -103,9 +100,6 @@ next-more count (point ∷ rest) first bar end c h l m =
     (λ k. let b : bar ≤ point .bar = c .0 k in omega (arith, nearer-above (point .bar) first end k))
     (λ k. omega (arith, nearer-else (point .bar) first end k)))
     (rw (mark-other count point rest bar 0 other) at m))
-  where
-    least : (x y : ℕ) → x ≤ y → min x y ≡ x
-    least x y g = omega arith
 
 -- and beyond it the next is that bar, where it has a mark
 pub next-marked : (map : List MeterPoint) (first bar end : ℕ) → Clear first bar map → first < bar → bar ≤ end → 0 < markOf map bar → nextChange map first end ≡ bar

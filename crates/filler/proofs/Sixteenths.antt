@@ -5,7 +5,7 @@ use mathlib.Core.Bool.{true, _&&_}
 use mathlib.Core.Logic.{inl, inr}
 use mathlib.Core.List.{List, [], _∷_}
 use Prim.Native.Nat.{ℕ, zero, suc, _+_, _-_, _*_, _/_, _%_, _^_, _≤_, _<_, _∣_}
-use native.Mathlib.Nat.{mul-pos, eq-of-mul-eq-mul-right, le-of-mul-le-mul-right, mul-div-cancel', add-suc, add-zero}
+use native.Mathlib.Nat.{mul-pos, eq-of-mul-eq-mul-right, le-of-mul-le-mul-right, mul-div-cancel', add-suc, add-zero, mul-assoc, mul-right-comm}
 use native.Mathlib.Omega.{arith}
 use lib.Dec.{leb, ltb, lit<}
 use lib.ListN.{length}
@@ -73,17 +73,14 @@ dyadic d e D E u v =
     let a = w .0 in
     let ea : e * 2 ^ a ≡ d * 16 = ap (λ (z : ℕ). e * z) (sym (w .1)) ∙ ex in
     by-order 4 a
-    (λ h. (a - 4, inr (eq-of-mul-eq-mul-right 16 (lit< tt) d (e * 2 ^ (a - 4)) (sym ea ∙ ap (λ (z : ℕ). e * z) (split a 4 (omega arith)) ∙ turn e 16 (2 ^ (a - 4))))))
-    (λ h. (4 - a, inl (eq-of-mul-eq-mul-right (2 ^ a) (pow-pos a) e (d * 2 ^ (4 - a)) (ea ∙ ap (λ (z : ℕ). d * z) (split 4 a h) ∙ turn d (2 ^ a) (2 ^ (4 - a))))))
+    (λ h. (a - 4, inr (eq-of-mul-eq-mul-right 16 (lit< tt) d (e * 2 ^ (a - 4)) (sym ea ∙ ap (λ (z : ℕ). e * z) (split a 4 (omega arith)) ∙ sym (mul-assoc e 16 (2 ^ (a - 4))) ∙ mul-right-comm e 16 (2 ^ (a - 4))))))
+    (λ h. (4 - a, inl (eq-of-mul-eq-mul-right (2 ^ a) (pow-pos a) e (d * 2 ^ (4 - a)) (ea ∙ ap (λ (z : ℕ). d * z) (split 4 a h) ∙ sym (mul-assoc d (2 ^ a) (2 ^ (4 - a))) ∙ mul-right-comm d (2 ^ a) (2 ^ (4 - a))))))
   where
     whole : (x y : ℕ) → e * x ≡ d * 16 → d * y ≡ e * 16 → x * y * d ≡ 256 * d
     whole x y ex ey = omega (arith, ap (λ (z : ℕ). z * x) ey, ex)
 
     split : (a b : ℕ) → b ≤ a → 2 ^ a ≡ 2 ^ b * 2 ^ (a - b)
     split a b h = let e : a ≡ b + (a - b) = omega arith in ap (λ (z : ℕ). 2 ^ z) e ∙ pow-add 2 b (a - b)
-
-    turn : (a p q : ℕ) → a * (p * q) ≡ a * q * p
-    turn a p q = omega arith
 
 -- ---- lengths in sixteenths
 

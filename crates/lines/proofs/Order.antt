@@ -1,6 +1,6 @@
 -- Ascending lines are in order at any two places, and a walk knows of the whole list by what is left.
 use mathlib.Core.Path.{_≡_, refl, sym, ap, _∙_}
-use mathlib.Core.Bool.{Bool, true, false, cond, _&&_}
+use mathlib.Core.Bool.{Bool, true, false, cond, _&&_, and-true, and-false}
 use mathlib.Core.List.{List, [], _∷_}
 use Prim.Native.Nat.{ℕ, zero, suc, _+_, _≤_, _<_}
 use native.Mathlib.Nat.{le-trans, le-of-suc-le-suc, not-suc-le-zero}
@@ -34,14 +34,6 @@ ordered low (line ∷ rest) h (suc p) zero o l = absurd (not-suc-le-zero o)
 ordered low (line ∷ rest) h (suc p) (suc q) o l = ordered line rest (up-step low line rest h .1) p q (le-of-suc-le-suc o) (le-of-suc-le-suc l)
 
 -- ---- a walk that stands at a place, behind a line `low`
-
-and-false : (a : Bool) → a && false ≡ false
-and-false true = refl
-and-false false = refl
-
-and-true : (a : Bool) → a && true ≡ a
-and-true true = refl
-and-true false = refl
 
 no-more : (falls : ℕ) → falls + 0 ≡ falls
 no-more falls = omega arith

@@ -3,7 +3,7 @@ use mathlib.Core.Path.{_≡_, refl, sym, ap, _∙_}
 use mathlib.Core.Bool.{Bool, true, cond, _&&_}
 use mathlib.Core.List.{List, [], _∷_}
 use Prim.Native.Nat.{ℕ, suc, min, max, _+_, _-_, _<_, _≤_}
-use native.Mathlib.Nat.{le-refl, le-trans}
+use native.Mathlib.Nat.{le-refl, le-trans, le-of-lt, min-eq-left, min-eq-right}
 use native.Mathlib.Omega.{arith}
 use lib.Dec.{leb, ltb}
 use lib.ListN.{length, getD}
@@ -51,11 +51,8 @@ unfolding nextChange
 next-ahead [] low bar end s h k = refl
 next-ahead (point ∷ rest) low bar end s h k =
     let l = low-le point rest low s in
-    let e : nearer (point .bar) bar end ≡ end = nearer-above (point .bar) bar end (omega arith) ∙ least (point .bar) end (omega arith) in
+    let e : nearer (point .bar) bar end ≡ end = nearer-above (point .bar) bar end (omega arith) ∙ min-eq-right {n = end} {m = point .bar} (omega arith) in
     ap (nextChange rest bar) e ∙ next-ahead rest (point .bar) bar end (rest-ascends point rest low s) (omega arith) (omega arith)
-  where
-    least : (x y : ℕ) → y ≤ x → min x y ≡ y
-    least x y g = omega arith
 
 last-ahead : (map : List MeterPoint) (low bar : ℕ) (found : MeterPoint) → ascends low map ≡ true → bar < low → lastAt map bar found ≡ found
 unfolding lastAt
@@ -136,16 +133,10 @@ module _ (map : List MeterPoint) (default : ℕ) (pickup : Pickup) where
       by-order change end
       (λ h. pass-on point rest bar end meter at h
       ∙ pass-is rest change (max bar change) end point (ending bar change meter at) t (omega arith) (rest-on point rest bar (max bar change) meter (omega arith) (omega arith) r)
-      ∙ up-to bar change end meter at p (omega arith) (rest-next point rest low bar meter s r end change (least change end h) (le-refl change)) (rest-meter point rest low bar meter s r))
+      ∙ up-to bar change end meter at p (omega arith) (rest-next point rest low bar meter s r end change (min-eq-left (le-of-lt h)) (le-refl change)) (rest-meter point rest low bar meter s r))
       (λ h. pass-past point rest bar end meter at h
-      ∙ last-bars bar end meter at p (λ l. rest-next point rest low bar meter s r end end (most change end h) h (omega arith))
+      ∙ last-bars bar end meter at p (λ l. rest-next point rest low bar meter s r end end (min-eq-right h) h (omega arith))
       (λ l. rest-meter point rest low bar meter s r (omega arith)))
-    where
-      least : (x y : ℕ) → x < y → min x y ≡ x
-      least x y g = omega arith
-
-      most : (x y : ℕ) → y ≤ x → min x y ≡ y
-      most x y g = omega arith
 
   pub pass-start : (bar : ℕ) → ascends 0 map ≡ true → 0 < bar → pass map 1 bar (fallback default) (one map default pickup) ≡ startOf map default pickup bar
   pass-start bar s h =

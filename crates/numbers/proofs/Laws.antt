@@ -5,7 +5,7 @@ pub use Rattle.numbers.proofs.Answers.{one-answer, Apart, one-reading, 
 -- a table of questions and answers
 pub use Rattle.numbers.proofs.Answers.{Agree}
 -- a flag by its cases, and a conjunction that holds
-pub use Rattle.numbers.proofs.Flags.{by-flag, never, not-both, holds, both, and-left, and-right, and-true, and-false}
+pub use Rattle.numbers.proofs.Flags.{by-flag, never, not-both, holds, both, and-left, and-right}
 -- the greatest common divisor divides both numbers, and all that divides both divides it
 pub use Rattle.numbers.proofs.Divisor.{gcd-left, gcd-right, gcd-greatest, gcd-zero, gcd-pos, gcd-le}
 -- what follows where it is 1

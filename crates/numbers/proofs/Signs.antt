@@ -1,6 +1,6 @@
 -- Laws of signs and magnitudes, and of what the machine reads back from a signed number's bits. Assumes nothing.
 use mathlib.Core.Path.{_≡_, refl, sym, ap, _∙_}
-use mathlib.Core.Bool.{Bool, true, false}
+use mathlib.Core.Bool.{Bool, true, false, and-true}
 use Prim.Native.Nat.{ℕ, zero, suc, _+_, _-_, _<_, _≤_, _^_, _/_, min}
 use native.Mathlib.Omega.{arith}
 use lib.IntN.{ℤ, pos, negsuc, negℤ, natAbs, _-ℤ_}
@@ -12,7 +12,7 @@ use mir.Syntax.{w64}
 use mir.Val.{SFits, toZ, ofZ}
 use mir.ValLaws.{toZ-ofZ}
 use Rattle.numbers.specs.Signs.{isNeg, withSign, inI64, toI64, mostOf}
-use Rattle.numbers.proofs.Flags.{and-left, and-true}
+use Rattle.numbers.proofs.Flags.{and-left}
 
 -- -1 - x turns -(n + 1) into n, and n into -(n + 1)
 pub flip-neg : (n : ℕ) → negsuc 0 -ℤ negsuc n ≡ pos n

@@ -52,26 +52,26 @@ module _ (m : ℕ) (e : ℤ) (k : ℕ) (h : Nearest (m * up e) (down e) k) where
 half-rises : (n d n' d' : ℕ) → 0 < d → 0 < d' → n * d' ≤ n' * d → halfUp n d ≤ halfUp n' d'
 half-rises n d n' d' D D' h = div-mono (2 * n + d) (2 * d) (2 * n' + d') (2 * d') (omega arith) (omega arith) (omega arith)
 
-pub rounds-rise : (w : ℕ) (x y : Float) → T (le x y) → toUnsigned w (roundAway x) ≤ toUnsigned w (roundAway y)
+pub round-rises : (w : ℕ) (x y : Float) → T (le x y) → toUnsigned w (roundAway x) ≤ toUnsigned w (roundAway y)
 unfolding toUnsigned roundAway le lt eq
-rounds-rise w nan y h = zero-le
-rounds-rise w (inf true) y h = zero-le
-rounds-rise w (inf false) nan h = absurd h
-rounds-rise w (inf false) (inf true) h = absurd h
-rounds-rise w (inf false) (inf false) h = le-refl (2 ^ w - 1)
-rounds-rise w (inf false) (fin t n d) h = absurd h
-rounds-rise w (fin true m e) y h = zero-le
-rounds-rise w (fin false m e) nan h = absurd h
-rounds-rise w (fin false m e) (inf true) h = absurd h
-rounds-rise w (fin false m e) (inf false) h = go (halfUp (m * up e) (down e) * 1 / 1) (2 ^ w - 1)
+round-rises w nan y h = zero-le
+round-rises w (inf true) y h = zero-le
+round-rises w (inf false) nan h = absurd h
+round-rises w (inf false) (inf true) h = absurd h
+round-rises w (inf false) (inf false) h = le-refl (2 ^ w - 1)
+round-rises w (inf false) (fin t n d) h = absurd h
+round-rises w (fin true m e) y h = zero-le
+round-rises w (fin false m e) nan h = absurd h
+round-rises w (fin false m e) (inf true) h = absurd h
+round-rises w (fin false m e) (inf false) h = go (halfUp (m * up e) (down e) * 1 / 1) (2 ^ w - 1)
   where
     go : (a b : ℕ) → min a b ≤ b
     go a b = omega arith
-rounds-rise w (fin false m e) (fin true n d) h =
+round-rises w (fin false m e) (fin true n d) h =
     let a = m * up e * down d in
     let z : m * up e ≡ 0 = factor-zero (m * up e) (down d) (down-pos d) (eqb→eq a 0 (and-r (eqb a (n * up d * down e)) (eqb a 0) h)) in
     le-trans (min-le-left (halfUp (m * up e) (down e) * 1 / 1) (2 ^ w - 1)) (le-of-eq (no-half (m * up e) (down e) z (down-pos e)))
-rounds-rise w (fin false m e) (fin false n d) h =
+round-rises w (fin false m e) (fin false n d) h =
     let a = m * up e * down d in
     let b = n * up d * down e in
     go (halfUp (m * up e) (down e)) (halfUp (n * up d) (down d)) (2 ^ w - 1) (half-rises (m * up e) (down e) (n * up d) (down d) (down-pos e) (down-pos d) (same a b h))

@@ -1,6 +1,6 @@
 -- Lines and words by their places in a text.
 use mathlib.Core.Path.{_≡_, refl, sym, ap, _∙_}
-use mathlib.Core.Bool.{Bool, true, false, not, _&&_}
+use mathlib.Core.Bool.{Bool, true, false, not, _&&_, and-false}
 use mathlib.Core.List.{List, [], _∷_}
 use Prim.Native.Nat.{ℕ, zero, suc, _+_, _-_, _≤_, _<_}
 use native.Mathlib.Omega.{arith}
@@ -105,10 +105,6 @@ module _ (line : List ℕ) (from : ℕ) where
       found-more e = sym (ap few (both ∙ ap (λ (rest : List (List ℕ)). part line first end ∷ part line second close ∷ rest) e))
 
 -- ---- words compared
-
-and-false : (b : Bool) → (b && false) ≡ false
-and-false true = refl
-and-false false = refl
 
 pub differ : (word key : List ℕ) → (length word ≡ length key → ⊥) → same word key ≡ false
 unfolding same
