@@ -3,7 +3,6 @@ pub mod Refusing
 pub mod Fitted
 pub mod Grid
 pub mod Values
-pub mod Halves
 pub mod Ordering
 pub mod Fractions
 pub mod Readings

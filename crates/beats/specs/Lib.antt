@@ -4,4 +4,3 @@ pub mod Frames
 pub mod Steps
 pub mod Readings
 pub mod Values
-pub mod Cuts

@@ -11,7 +11,6 @@ ghost use Rattle.beats.specs.Steps.{stepAnswer};
 ghost use Rattle.beats.specs.Readings.{readBeat, readOrder, readFloat, readFrame, readStep};
 use numbers::exact::Order;
 
-mod cuts;
 pub mod frames;
 pub mod sums;
 

@@ -2,7 +2,6 @@
 // not: the exact products are worked out first, tested for 2, and then reduced.
 use crate::Beat;
 use crate::BeatAnswer;
-use crate::cuts::Cut;
 use numbers::exact::Exact;
 use numbers::exact::Order;
 ghost use mathlib.Core.Path.{_≡_};
@@ -73,17 +72,7 @@ pub fn order(a: Beat, b: Beat) -> Order
     let ad = a.den;
     let bn = b.num;
     let bd = b.den;
-    let x = Cut::product(an, bd);
-    let y = Cut::product(bn, ad);
-    let less = x.below(y);
-    let more = y.below(x);
-    if less {
-        Order::Less
-    } else if more {
-        Order::Greater
-    } else {
-        Order::Equal
-    }
+    numbers::exact::order_of_products(an, bd, bn, ad)
 }
 
 // Whether a is below b.

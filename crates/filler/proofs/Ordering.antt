@@ -16,7 +16,7 @@ use lib.Ieee.Scale.{round-same, finite}
 use lib.Ieee.Positive.{positive, positive-of-value}
 use Rattle.numbers.proofs.Laws.{lt-parts, parts-lt, up-times, down-times, and-left, and-right}
 use Rattle.rounding.specs.Floats.{roundAway, float0}
-use Rattle.rounding.proofs.Laws.{not-zero, round-rises, Up, up-right, up→le, mul-up, round-up}
+use Rattle.rounding.proofs.Laws.{quotient-is, round-rises, Up, up-right, up→le, mul-up, round-up}
 use Rattle.beats.specs.declared.Beat.{Beat}
 use Rattle.beats.specs.Beats.{wholeBeat}
 use Rattle.beats.specs.Sums.{belowBeat}
@@ -52,31 +52,11 @@ frames-up x y (suc r) l h =
 
 -- ---- beats
 
--- a quotient by a float that is a whole number is the fraction, rounded once
-pub quotient : (f : Format) (x y : Float) (a c b : ℕ) → 0 < b → 0 < c → HasValue x false a c → HasValue y false b 1 → div f x y ≡ round f false a (b * c)
-unfolding div
-quotient f nan y a c b B C h k = absurd h
-quotient f (inf t) y a c b B C h k = absurd h
-quotient f (fin true m e) y a c b B C h k = absurd (true≢false (h .0))
-quotient f (fin false m e) nan a c b B C h k = absurd k
-quotient f (fin false m e) (inf t) a c b B C h k = absurd k
-quotient f (fin false m e) (fin true o g) a c b B C h k = absurd (true≢false (k .0))
-quotient f (fin false m e) (fin false o g) a c b B C h k =
-    rw (not-zero o (positive-of-value (fin false o g) b 1 (refl, k .1) B))
-    (round-same f false (m * up e * down g) (o * up g * down e) a (b * c) (mul-pos (mul-pos (ltb→lt 0 o (positive-of-value (fin false o g) b 1 (refl, k .1) B)) (up-pos g)) (down-pos e)) (mul-pos B C)
-    (go (m * up e) (o * up g) (down e) (down g) (h .1) (k .1)))
-  where
-    go : (x y p q : ℕ) → x * c ≡ a * p → y * 1 ≡ b * q → x * q * (b * c) ≡ a * (y * p)
-    go x y p q u v =
-        let v' : y ≡ b * q = sym (mul-one y) ∙ v in
-        let l : x * q * (b * c) ≡ x * c * (b * q) = simp (mul-assoc, mul-comm, mul-left-comm) in
-        l ∙ ap (λ (z : ℕ). z * (b * q)) u ∙ rw v' (simp (mul-assoc, mul-comm, mul-left-comm))
-
 -- a beat with a numerator up to 2 ^ 53 is its fraction, rounded once
 pub beat-is : (n d : ℕ) → n ≤ 2 ^ 53 → 0 < d → d ≤ 2 ^ 53 → beatFloat (pos n) d ≡ round binary64 false n d
 unfolding ofInt
 beat-is n d N D L =
-    quotient binary64 (round binary64 false n 1) (round binary64 false d 1) n 1 d D (lit< tt) (round-whole binary64 false n N) (round-whole binary64 false d L)
+    quotient-is binary64 (round binary64 false n 1) (round binary64 false d 1) n 1 d D (lit< tt) (round-whole binary64 false n N) (round-whole binary64 false d L)
     ∙ ap (round binary64 false n) (mul-one d)
 
 -- so it keeps the order

@@ -14,9 +14,9 @@ use lib.Ieee.Exact.{HasValue}
 use lib.Ieee.Back.{round-whole}
 use lib.Ieee.Order.{transfer}
 use lib.Ieee.Scale.{finite, grid, round-val, round-under, grid-scale, normal-of-fraction}
-use Rattle.rounding.proofs.Laws.{Up, round-up}
+use Rattle.rounding.proofs.Laws.{Up, round-up, quotient-is}
 use Rattle.beats.specs.Frames.{beatFloat}
-use Rattle.filler.proofs.Ordering.{quotient, finite-under, beat-is}
+use Rattle.filler.proofs.Ordering.{finite-under, beat-is}
 
 -- ---- a numerator as a float
 
@@ -79,7 +79,7 @@ module _ (n d : ℕ) (N : n ≤ 2 ^ 64) (D : 0 < d) (L : d ≤ 2 ^ 53) where
   wide-is : beatFloat (pos n) d ≡ round binary64 false (rounded n) (d * unit)
   unfolding ofInt
   wide-is =
-      quotient binary64 (round binary64 false n 1) (round binary64 false d 1) (rounded n) unit d D (pow-pos (low binary64)) (has-rounded n (omega arith)) (round-whole binary64 false d L)
+      quotient-is binary64 (round binary64 false n 1) (round binary64 false d 1) (rounded n) unit d D (pow-pos (low binary64)) (has-rounded n (omega arith)) (round-whole binary64 false d L)
 
   -- it is finite
   pub wide-finite : T (finite (beatFloat (pos n) d))

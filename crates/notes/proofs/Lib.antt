@@ -9,4 +9,5 @@ pub mod Choosing
 pub mod Inserting
 pub mod Quarters
 pub mod Whole
+pub mod Readings
 pub mod Laws

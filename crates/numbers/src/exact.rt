@@ -1,11 +1,12 @@
-// Exact products of 64 by 64 bits and their sums: a sign and two words, where the
+// Exact products of 64 by 64 bits, their sums and their order: a sign and two words, where the
 // original has an i128.
+use crate::cuts::Cut;
 ghost use mathlib.Core.Path.{_≡_};
 ghost use Prim.Native.Nat.{min, _+_, _-_, _*_, _^_, _<_, _≤_};
 ghost use lib.Dec.{ltb, eqb};
 ghost use lib.IntN.{pos, subℕ, _+ℤ_, _-ℤ_, _*ℤ_};
 ghost use Rattle.numbers.specs.Signs.{withSign, mostOf, inI64, toI64};
-ghost use Rattle.numbers.specs.Exacts.{sizeOf, wideOf, valueOf, exactOf};
+ghost use Rattle.numbers.specs.Exacts.{sizeOf, wideOf, valueOf, exactOf, orderOf};
 
 // The number hi * 2^64 + lo.
 pub struct Wide {
@@ -238,5 +239,22 @@ impl Exact {
         let neg = self.neg;
         let size = self.size;
         crate::signed(neg, size.or_most())
+    }
+}
+
+// Where a * b stands to c * d, by two products in the form of `cuts`.
+pub fn order_of_products(a: i64, b: u32, c: i64, d: u32) -> Order
+    ensures { λ r. ⌜ r ≡ orderOf (a *ℤ pos b -ℤ c *ℤ pos d) ⌝ }
+{
+    let x = Cut::product(a, b);
+    let y = Cut::product(c, d);
+    let less = x.below(y);
+    let more = y.below(x);
+    if less {
+        Order::Less
+    } else if more {
+        Order::Greater
+    } else {
+        Order::Equal
     }
 }

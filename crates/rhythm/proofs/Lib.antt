@@ -4,4 +4,5 @@ pub mod Windows
 pub mod Gridding
 pub mod Even
 pub mod Remainders
+pub mod Readings
 pub mod Laws

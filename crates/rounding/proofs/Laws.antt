@@ -16,6 +16,8 @@ pub use Rattle.rounding.proofs.Words.{plain, infWord}
 pub use Rattle.rounding.proofs.Order.{le-trans-float}
 -- floats that are not negative: rounding and the rounded operations keep their order
 pub use Rattle.rounding.proofs.Upward.{Up, up-right, up-trans, le→up, nle→up, up→le, round-own, round-up, not-zero, from-zero, mul-up, div-up, add-up, add-more, sub-up}
+-- a quotient by a whole number is the fraction, rounded once
+pub use Rattle.rounding.proofs.Quotients.{quotient-is}
 -- half up is the nearest whole number, a half going up
 pub use Rattle.rounding.proofs.Nearest.{nearest}
 -- rounding never falls as its number rises

@@ -7,5 +7,6 @@ pub mod Nearest
 pub mod Flooring
 pub mod Order
 pub mod Upward
+pub mod Quotients
 pub mod Laws
 pub mod Cases

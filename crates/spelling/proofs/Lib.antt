@@ -2,5 +2,6 @@ pub mod Reading
 pub mod Marks
 pub mod Ratios
 pub mod Tempos
+pub mod Decimals
 pub mod Back
 pub mod Laws

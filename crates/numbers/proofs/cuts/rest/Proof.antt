@@ -2,9 +2,9 @@
 use mathlib.Core.Path.{ap}
 use native.Mathlib.Omega.{arith}
 use lib.IntN.{natAbs}
-use Rattle.beats.proofs.Halves.{rest-below, rest-read}
-use Rattle.beats.proofs.cuts.rest.Statement.{statement}
-use Rattle.beats.proofs.cuts.rest.Tie as tie
+use Rattle.numbers.proofs.Halves.{rest-below, rest-read}
+use Rattle.numbers.proofs.cuts.rest.Statement.{statement}
+use Rattle.numbers.proofs.cuts.rest.Tie as tie
 
 cast-result : tie.Need-cast-result
 cast-result c = rw (rest-read (c .args .n) (c .fits .n)) (tt, omega (arith, rest-below (c .args .n)))

@@ -1,7 +1,7 @@
 -- The shift copies the sign bit, so it rounds down.
-use Rattle.beats.proofs.Halves.{upper-read}
-use Rattle.beats.proofs.cuts.upper.Statement.{statement}
-use Rattle.beats.proofs.cuts.upper.Tie as tie
+use Rattle.numbers.proofs.Halves.{upper-read}
+use Rattle.numbers.proofs.cuts.upper.Statement.{statement}
+use Rattle.numbers.proofs.cuts.upper.Tie as tie
 
 returns : tie.Need-returns
 returns c = upper-read (c .args .n) (c .fits .n)

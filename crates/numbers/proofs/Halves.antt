@@ -12,11 +12,14 @@ use lib.Signed.{mag, ltZ, shrZ, mag-shr}
 use mir.Syntax.{w64}
 use mir.Val.{SFits, toZ, ofZ}
 use mir.ValLaws.{toZ-ofZ, sfits-le}
 use Rattle.numbers.specs.declared.exact.Order.{Order}
 use Rattle.numbers.specs.declared.exact.Order.the-variants.{Less, Equal, Greater}
 use Rattle.numbers.specs.Exacts.{orderOf}
-use Rattle.numbers.proofs.Laws.{read-pos, up, down, eq-parts, lt-parts, parts-lt, sum-parts, up-times, down-times, isLess, less-is, turned, exchanged, by-order}
-use Rattle.beats.specs.Cuts.{restOf}
+use Rattle.numbers.specs.Cuts.{restOf}
+use Rattle.numbers.proofs.Signs.{read-pos}
+use Rattle.numbers.proofs.Parts.{up, down, eq-parts, lt-parts, parts-lt, sum-parts, up-times, down-times}
+use Rattle.numbers.proofs.Orders.{isLess, less-is, turned, exchanged}
+use Rattle.numbers.proofs.Words.{by-order}
 
 abbrev P : ℕ
 P = 4294967296

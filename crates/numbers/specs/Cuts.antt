@@ -1,7 +1,7 @@
 -- A whole number, cut at 2^32.
 use Prim.Native.Nat.{ℕ, _-_, _%_}
 use lib.IntN.{ℤ, pos, negsuc, _+ℤ_, _*ℤ_}
-use Rattle.beats.specs.declared.cuts.Cut.{Cut}
+use Rattle.numbers.specs.declared.cuts.Cut.{Cut}
 
 -- the number
 abbrev pub cutValue : Cut → ℤ

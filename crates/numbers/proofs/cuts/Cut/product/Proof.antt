@@ -6,10 +6,10 @@ use lib.IntN.{ℤ}
 use lib.Signed.{shrZ}
 use mir.Syntax.{w64}
 use mir.ValLaws.{toZ-ofZ}
-use Rattle.beats.specs.Cuts.{restOf}
-use Rattle.beats.proofs.Halves.{product-small, product-fits, sum-fits, cut-is}
-use Rattle.beats.proofs.cuts.Cut.product.Statement.{statement}
-use Rattle.beats.proofs.cuts.Cut.product.Tie as tie
+use Rattle.numbers.specs.Cuts.{restOf}
+use Rattle.numbers.proofs.Halves.{product-small, product-fits, sum-fits, cut-is}
+use Rattle.numbers.proofs.cuts.Cut.product.Statement.{statement}
+use Rattle.numbers.proofs.cuts.Cut.product.Tie as tie
 
 rest-requires : tie.Need-rest-requires
 rest-requires c κs = search needs

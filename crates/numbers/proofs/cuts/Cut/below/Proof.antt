@@ -4,9 +4,9 @@ use lib.Signed.{ltZ}
 use mir.Syntax.{w64}
 use mir.Val.{SFits, ofZ}
 use mir.ValLaws.{toZ-ofZ}
-use Rattle.beats.proofs.Halves.{bits-same, lower-decides, upper-decides}
-use Rattle.beats.proofs.cuts.Cut.below.Statement.{statement}
-use Rattle.beats.proofs.cuts.Cut.below.Tie as tie
+use Rattle.numbers.proofs.Halves.{bits-same, lower-decides, upper-decides}
+use Rattle.numbers.proofs.cuts.Cut.below.Statement.{statement}
+use Rattle.numbers.proofs.cuts.Cut.below.Tie as tie
 
 returns : tie.Need-returns
 returns c =

@@ -1,10 +1,10 @@
-// The product of a numerator and a denominator, cut into two numbers, by which the order of two
-// products is found without a branch. The original has an i128.
+// The product of an i64 and a u32 in two words, of which the upper one has the sign: so cut, two
+// products are compared without a branch by sign or size. The original has an i128.
 ghost use mathlib.Core.Path.{_≡_};
 ghost use Prim.Native.Nat.{_<_, _^_};
 ghost use lib.IntN.{pos, _*ℤ_};
 ghost use lib.Signed.{ltZ, shrZ};
-ghost use Rattle.beats.specs.Cuts.{restOf, cutValue};
+ghost use Rattle.numbers.specs.Cuts.{restOf, cutValue};
 
 // The number hi * 2^32 + lo, where lo is below 2^32.
 pub struct Cut {
