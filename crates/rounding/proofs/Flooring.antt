@@ -3,7 +3,7 @@
 use mathlib.Core.Path.{_≡_, refl, sym, ap, _∙_, subst}
 use mathlib.Core.Bool.{Bool, true, false, _&&_, cond, true≢false}
 use Prim.Native.Nat.{ℕ, zero, suc, _+_, _-_, _*_, _/_, _%_, _^_, _≤_, _<_, zero-le, min}
-use native.Mathlib.Nat.{le-trans, le-of-eq, le-of-lt, lt-of-lt-of-le, lt-of-le-of-lt, lt-irrefl, mul-comm, mul-assoc, mul-one, zero-mul, div-one, mul-le-mul-left, mul-lt-mul-of-pos-right, div-eq-of-lt-le, div-lt-iff-lt-mul, add-mul, mul-right-comm, lt-of-mul-lt-mul-right, le-of-mul-le-mul-right, div-mul-le-self, mul-div-cancel}
+use native.Mathlib.Nat.{le-refl, le-trans, le-of-eq, le-of-lt, le-of-suc-le-suc, lt-of-lt-of-le, lt-of-le-of-lt, lt-irrefl, mul-comm, mul-assoc, mul-one, zero-mul, div-one, mul-lt-mul-of-pos-right, div-eq-of-lt-le, div-lt-iff-lt-mul, add-mul, mul-right-comm, lt-of-mul-lt-mul-right, le-of-mul-le-mul-right, div-mul-le-self, mul-div-cancel, add-le-add, le-mul-of-pos-right, suc-mul}
 use native.Mathlib.Numerals.{lt-add-one}
 use native.Mathlib.Omega.{arith}
 use borrow.Author.Tests.{ltb-true, ltb-false}
@@ -28,18 +28,12 @@ above-is n d k p hi lo = div-eq-of-lt-le d (least (k * d) n d lo) (lt-of-lt-of-l
     most : (n a d : ℕ) → 0 < d → n ≤ a → n + (d - 1) < a + 1 * d
     most n a d q h = omega arith
 
--- n is no more than n times a number above 0
-times : (n d : ℕ) → 0 < d → n ≤ n * d
-times n d h = le-trans (le-of-eq (sym (mul-one n))) (mul-le-mul-left n h)
-
 no-more : (n d k : ℕ) → 0 < d → k * d < n + d → k ≤ n
-no-more n d k p lo = up-to k n (lt-of-mul-lt-mul-right d (lt-of-lt-of-le lo (le-trans (more n (n * d) d (times n d p)) (le-of-eq (sym (add-mul n 1 d))))))
-  where
-    more : (n a d : ℕ) → n ≤ a → n + d ≤ a + 1 * d
-    more n a d h = omega arith
+no-more n d k p lo = le-of-suc-le-suc (lt-of-mul-lt-mul-right d (lt-of-lt-of-le lo (le-trans (add-le-add (le-mul-of-pos-right n p) (le-refl d)) (le-of-eq (sym (suc-mul n d))))))
 
-    up-to : (k n : ℕ) → k < n + 1 → k ≤ n
-    up-to k n h = omega arith
+-- a number is below what it does not exceed, with more added
+below-more : (a n d : ℕ) → 0 < d → a ≤ n → a < n + d
+below-more a n d p h = omega arith
 
 -- ---- a float that the format holds has few digits, is a multiple of the least, and is below the top
 
@@ -74,21 +68,18 @@ exact f s (suc m) (negsuc i) k F h l = round-whole f s k (le-trans l (le-trans (
 is-whole : (f : Format) (s : Bool) (m : ℕ) (e : ℤ) (k : ℕ) → T (fits f (fin s m e)) → m * up e ≡ k * down e → fin s m e ≡ round f s k 1
 is-whole f s m e k F h =
     whole-unique f (fin s m e) (round f s k 1) s k F (round-fits f s k 1) (refl, mul-one (m * up e) ∙ h)
-    (exact f s m e k F (λ one. h ∙ ap (λ (d : ℕ). k * d) one ∙ mul-one k) (le-trans (times k (down e) (down-pos e)) (le-of-eq (sym h))))
+    (exact f s m e k F (λ one. h ∙ ap (λ (d : ℕ). k * d) one ∙ mul-one k) (le-trans (le-mul-of-pos-right k (down-pos e)) (le-of-eq (sym h))))
 
 -- so it is its own floor
 kept : (f : Format) (s : Bool) (m : ℕ) (e : ℤ) (k : ℕ) → T (fits f (fin s m e)) → m * up e ≡ k * down e → fin s m e ≡ floorOf f (fin s m e)
 unfolding floorOf
 kept f false m e k F h = is-whole f false m e k F h ∙ ap (λ (j : ℕ). round f false j 1) (sym (ap (λ (n : ℕ). n / down e) h ∙ mul-div-cancel k (down-pos e)))
-kept f true m e k F h = is-whole f true m e k F h ∙ ap (λ (j : ℕ). round f true j 1) (sym (above-is (m * up e) (down e) k (down-pos e) (le-of-eq h) (go (m * up e) (k * down e) (down e) (down-pos e) h)))
-  where
-    go : (n a d : ℕ) → 0 < d → n ≡ a → a < n + d
-    go n a d p q = omega arith
+kept f true m e k F h = is-whole f true m e k F h ∙ ap (λ (j : ℕ). round f true j 1) (sym (above-is (m * up e) (down e) k (down-pos e) (le-of-eq h) (below-more (k * down e) (m * up e) (down e) (down-pos e) (le-of-eq (sym h)))))
 
 -- from 2 ^ prec on there is no fraction
 kept-large : (f : Format) (s : Bool) (m : ℕ) (e : ℤ) → T (fits f (fin s m e)) → 2 ^ prec f * down e ≤ m * up e → fin s m e ≡ floorOf f (fin s m e)
 kept-large f s m (pos i) F h = kept f s m (pos i) (m * 2 ^ i) F (sym (mul-one (m * 2 ^ i)))
-kept-large f s m (negsuc i) F h = absurd (lt-irrefl (2 ^ prec f) (lt-of-le-of-lt (le-trans (times (2 ^ prec f) (2 ^ suc i) (pow-pos (suc i))) h) (small m F)))
+kept-large f s m (negsuc i) F h = absurd (lt-irrefl (2 ^ prec f) (lt-of-le-of-lt (le-trans (le-mul-of-pos-right (2 ^ prec f) (pow-pos (suc i))) h) (small m F)))
   where
     small : (m : ℕ) → T (fits f (fin s m (negsuc i))) → m * 1 < 2 ^ prec f
     small zero F = pow-pos (prec f)
@@ -102,7 +93,7 @@ module _ (f : Format) (m : ℕ) (e : ℤ) (k : ℕ) where
   floor-below F lo hi =
       let is : m * up e / down e ≡ k = div-eq-of-lt-le (down e) lo hi in
       subst (λ (j : ℕ). HasValue (round f false j 1) false k 1) (sym is)
-      (exact f false m e k F (λ one. sym (sym is ∙ ap (λ (d : ℕ). m * up e / d) one ∙ div-one (m * up e))) (le-trans (times k (down e) (down-pos e)) lo))
+      (exact f false m e k F (λ one. sym (sym is ∙ ap (λ (d : ℕ). m * up e / d) one ∙ div-one (m * up e))) (le-trans (le-mul-of-pos-right k (down-pos e)) lo))
 
   pub floor-above : T (fits f (fin true m e)) → m * up e ≤ k * down e → k * down e < m * up e + down e → HasValue (floorOf f (fin true m e)) true k 1
   unfolding floorOf
@@ -144,10 +135,7 @@ minus-end = fin true 1 (pos 53)
 -- the size is below 2 ^ 53
 under : (m : ℕ) (e : ℤ) → lt (fin false m e) end ≡ true → m * up e / down e < 2 ^ 53
 unfolding lt
-under m e h = div-lt-iff-lt-mul (down-pos e) .1 (go (m * up e) (down e) (ltb-true (m * up e * 1) (1 * 2 ^ 53 * down e) h))
-  where
-    go : (n d : ℕ) → n * 1 < 9007199254740992 * d → n < 9007199254740992 * d
-    go n d p = omega arith
+under m e h = div-lt-iff-lt-mul (down-pos e) .1 (rw mul-one at (ltb-true (m * up e * 1) (1 * 2 ^ 53 * down e) h))
 
 uncapped : (k : ℕ) → k < 2 ^ 53 → min k (2 ^ 64 - 1) ≡ k
 uncapped k h = omega arith
@@ -165,10 +153,7 @@ unfolding lt floorOf
 up-large nan F a b = refl
 up-large (inf s) F a b = refl
 up-large (fin true m e) F a b = absurd (true≢false (sym a))
-up-large (fin false m e) F a b = kept-large binary64 false m e F (go (m * up e) (down e) (ltb-false (m * up e * 1) (1 * 2 ^ 53 * down e) b))
-  where
-    go : (n d : ℕ) → 9007199254740992 * d ≤ n * 1 → 9007199254740992 * d ≤ n
-    go n d p = omega arith
+up-large (fin false m e) F a b = kept-large binary64 false m e F (rw mul-one at (ltb-false (m * up e * 1) (1 * 2 ^ 53 * down e) b))
 
 no-sign : (m : ℕ) (e : ℤ) → lt (fin false m e) float0 ≡ true → ⊥
 no-sign m e a = true≢false (sym a ∙ not-below m e)
@@ -229,10 +214,7 @@ module _ (m : ℕ) (e : ℤ) (b : lt (fin false m e) end ≡ true) where
       ∙ ap (λ (j : ℕ). round binary64 true j 1)
       (cut-is
       ∙ sym (above-is (m * up e) (down e) k (down-pos e) (not-less-whole (round binary64 false k 1) k m e of-k (subst (λ (j : ℕ). lt (round binary64 false j 1) (fin false m e) ≡ false) cut-is h))
-      (go (k * down e) (m * up e) (down e) (down-pos e) (div-mul-le-self (m * up e) (down e)))))
-    where
-      go : (a n d : ℕ) → 0 < d → a ≤ n → a < n + d
-      go a n d p l = omega arith
+      (below-more (k * down e) (m * up e) (down e) (down-pos e) (div-mul-le-self (m * up e) (down e)))))
 
 pub down-after : (x : Float) → lt x float0 ≡ true → lt minus-end x ≡ true → lt (ofInt binary64 (pos (toUnsigned 64 (neg x)))) (neg x) ≡ true → neg (ofInt binary64 (pos (toUnsigned 64 (neg x) + 1))) ≡ floorOf binary64 x
 unfolding lt neg toUnsigned ofInt floorOf
@@ -255,10 +237,7 @@ unfolding lt floorOf
 down-large nan F a b = refl
 down-large (inf s) F a b = refl
 down-large (fin false m e) F a b = absurd (no-sign m e a)
-down-large (fin true m e) F a b = kept-large binary64 true m e F (go (m * up e) (down e) (ltb-false (m * up e * 1) (1 * 2 ^ 53 * down e) b))
-  where
-    go : (n d : ℕ) → 9007199254740992 * d ≤ n * 1 → 9007199254740992 * d ≤ n
-    go n d p = omega arith
+down-large (fin true m e) F a b = kept-large binary64 true m e F (rw mul-one at (ltb-false (m * up e * 1) (1 * 2 ^ 53 * down e) b))
 
 pub at-zero : (x : Float) → T (fits binary64 x) → lt float0 x ≡ false → lt x float0 ≡ false → x ≡ floorOf binary64 x
 unfolding lt floorOf

@@ -3,7 +3,7 @@
 use mathlib.Core.Path.{_≡_, sym, ap, _∙_}
 use mathlib.Core.Bool.{Bool, true, false}
 use Prim.Native.Nat.{ℕ, _+_, _-_, _*_, _/_, _^_, _≤_, _<_, min, zero-le}
-use native.Mathlib.Nat.{le-refl, le-trans, le-of-eq, lt-of-lt-of-le, mul-assoc, mul-comm, mul-one, div-one, div-mul-le-self, div-lt-iff-lt-mul, div-eq-of-lt-le, min-le-left}
+use native.Mathlib.Nat.{le-refl, le-trans, le-of-eq, lt-of-lt-of-le, mul-assoc, mul-comm, mul-one, div-one, div-mul-le-self, div-lt-iff-lt-mul, div-eq-of-lt-le, min-le-left, min-le-right}
 use native.Mathlib.Numerals.{lt-add-one}
 use native.Mathlib.Omega.{arith}
 use lib.Dec.{T, eqb, eqb→eq}
@@ -63,10 +63,7 @@ round-rises w (inf false) (fin t n d) h = absurd h
 round-rises w (fin true m e) y h = zero-le
 round-rises w (fin false m e) nan h = absurd h
 round-rises w (fin false m e) (inf true) h = absurd h
-round-rises w (fin false m e) (inf false) h = go (halfUp (m * up e) (down e) * 1 / 1) (2 ^ w - 1)
-  where
-    go : (a b : ℕ) → min a b ≤ b
-    go a b = omega arith
+round-rises w (fin false m e) (inf false) h = min-le-right (halfUp (m * up e) (down e) * 1 / 1) (2 ^ w - 1)
 round-rises w (fin false m e) (fin true n d) h =
     let a = m * up e * down d in
     let z : m * up e ≡ 0 = factor-zero (m * up e) (down d) (down-pos d) (eqb→eq a 0 (and-r (eqb a (n * up d * down e)) (eqb a 0) h)) in

@@ -1,14 +1,18 @@
 -- The test `<=` on floats is transitive, signs, infinities and NaNs included.
-use mathlib.Core.Path.{_≡_, sym, _∙_, subst}
+use mathlib.Core.Path.{_≡_, sym, _∙_}
 use mathlib.Core.Logic.{inl, inr, _↔_}
-use mathlib.Core.Bool.{Bool, true, false, _&&_, _||_}
-use Prim.Native.Nat.{ℕ, zero, suc, _+_, _*_, _≤_, _<_}
-use native.Mathlib.Nat.{le-of-lt, le-of-eq, le-trans, eq-or-lt-of-le, lt-irrefl, lt-of-lt-of-le, mul-pos}
+use mathlib.Core.Bool.{true, false, _&&_, _||_, or-true}
+use Prim.Native.Nat.{ℕ, _+_, _*_, _≤_, _<_, zero-le}
+use native.Mathlib.Nat.{le-of-lt, le-of-eq, le-trans, eq-or-lt-of-le, eq-zero-or-pos, zero-mul}
 use native.Mathlib.Omega.{arith}
-use lib.Dec.{T, ltb, eqb, eqb→eq, eqb-refl, ltb→lt, lt→ltb}
+use borrow.Author.Tests.{lt-ltb, eq-eqb}
+use lib.Arith.{le-zero}
+use lib.Dec.{T, ltb, eqb, eqb→eq, ltb→lt}
 use lib.Ieee.{Float, nan, inf, fin, up, down, le, lt}
-use lib.Ieee.Fits.{down-pos}
+use lib.Ieee.Fits.{down-pos, and-l, and-r}
 use lib.Ieee.Positive.{through}
+use mir.Facts.{or-yes}
+use Rattle.numbers.proofs.Laws.{factor-zero}
 
 -- x is at most y, as numbers
 abbrev Le : Float → Float → Type 0
@@ -28,61 +32,28 @@ Le (fin true m e) (fin false n d) = Unit
 Le (fin true m e) (fin true n d) = n * up d * down e ≤ m * up e * down d
 
 -- the test on two naturals
-of-test : (a b : ℕ) (x y : Bool) → (T x → a < b) → (T y → a ≡ b) → T (x || (y && true)) → a ≤ b
-of-test a b true y p q t = le-of-lt (p tt)
-of-test a b false true p q t = le-of-eq (q tt)
-of-test a b false false p q t = absurd t
-
 pub same : (a b : ℕ) → T (ltb a b || (eqb a b && true)) → a ≤ b
-same a b = of-test a b (ltb a b) (eqb a b) (ltb→lt a b) (eqb→eq a b)
+same a b t = elim (or-yes (ltb a b) (eqb a b && true) t) [ inl l ↦ le-of-lt (ltb→lt a b l) | inr e ↦ le-of-eq (eqb→eq a b (and-l (eqb a b) true e)) ]
 
 turned : (a b : ℕ) → T (ltb b a || (eqb a b && true)) → b ≤ a
-turned a b = of-test b a (ltb b a) (eqb a b) (ltb→lt b a) (λ t. sym (eqb→eq a b t))
+turned a b t = elim (or-yes (ltb b a) (eqb a b && true) t) [ inl l ↦ le-of-lt (ltb→lt b a l) | inr e ↦ le-of-eq (sym (eqb→eq a b (and-l (eqb a b) true e))) ]
 
 nought : (a b : ℕ) → T (eqb a b && (false || eqb a 0)) → (a ≤ 0) × (b ≤ 0)
-nought a b = go (eqb a b) (eqb a 0) (eqb→eq a b) (eqb→eq a 0)
-  where
-    go : (x y : Bool) → (T x → a ≡ b) → (T y → a ≡ 0) → T (x && (false || y)) → (a ≤ 0) × (b ≤ 0)
-    go true true p q t = (le-of-eq (q tt), le-of-eq (sym (p tt) ∙ q tt))
-    go true false p q t = absurd t
-    go false y p q t = absurd t
-
-of-eq : (a b : ℕ) → a ≡ b → T (eqb a b)
-of-eq a b e = subst (λ (x : ℕ). T (eqb a x)) e (eqb-refl a)
-
-of-le : (a b : ℕ) (x y : Bool) → (a < b → T x) → (a ≡ b → T y) → a ≤ b → T (x || (y && true))
-of-le a b true y p q h = tt
-of-le a b false true p q h = tt
-of-le a b false false p q h = elim (eq-or-lt-of-le h) [ inl w ↦ q w | inr w ↦ p w ]
+nought a b t =
+    let z : a ≡ 0 = eqb→eq a 0 (and-r (eqb a b) (eqb a 0) t) in
+    (le-of-eq z, le-of-eq (sym (eqb→eq a b (and-l (eqb a b) (eqb a 0) t)) ∙ z))
 
 pub at-most : (a b : ℕ) → a ≤ b → T (ltb a b || (eqb a b && true))
-at-most a b h = of-le a b (ltb a b) (eqb a b) (lt→ltb a b) (of-eq a b) h
+at-most a b h = elim (eq-or-lt-of-le h) [ inl e ↦ rw (eq-eqb a b e, or-true) tt | inr l ↦ rw (lt-ltb a b l) tt ]
 
 of-turned : (a b : ℕ) → b ≤ a → T (ltb b a || (eqb a b && true))
-of-turned a b h = of-le b a (ltb b a) (eqb a b) (lt→ltb b a) (λ p. of-eq a b (sym p)) h
+of-turned a b h = elim (eq-or-lt-of-le h) [ inl e ↦ rw (eq-eqb a b (sym e), or-true) tt | inr l ↦ rw (lt-ltb b a l) tt ]
 
 of-nought : (a b : ℕ) → (a ≤ 0) × (b ≤ 0) → T (eqb a b && (false || eqb a 0))
-of-nought a b h = go (eqb a b) (eqb a 0) (of-eq a b (omega arith)) (of-eq a 0 (omega arith))
-  where
-    go : (x y : Bool) → T x → T y → T (x && (false || y))
-    go true true p q = tt
-    go true false p q = q
-    go false y p q = p
+of-nought a b h = rw (eq-eqb a b (omega arith), eq-eqb a 0 (omega arith)) tt
 
 always : (a b : ℕ) → T (ltb 0 (a + b) || (eqb a b && (false || eqb a 0)))
-always a b = go (ltb 0 (a + b)) (eqb a b) (eqb a 0) (lt→ltb 0 (a + b)) (of-eq a b) (of-eq a 0)
-  where
-    go : (x y z : Bool) → (0 < a + b → T x) → (a ≡ b → T y) → (a ≡ 0 → T z) → T (x || (y && (false || z)))
-    go true y z p q r = tt
-    go false true true p q r = tt
-    go false true false p q r = by p r
-      where
-        by : (0 < a + b → ⊥) → (a ≡ 0 → ⊥) → ⊥
-        by u v = v (omega arith)
-    go false false z p q r = by p q
-      where
-        by : (0 < a + b → ⊥) → (a ≡ b → ⊥) → ⊥
-        by u v = v (omega arith)
+always a b = elim (eq-zero-or-pos (a + b)) [ inl z ↦ rw (eq-eqb a b (omega arith), eq-eqb a 0 (omega arith), or-true) tt | inr p ↦ rw (lt-ltb 0 (a + b) p) tt ]
 
 as-is : {A : Type 0} → A ↔ A
 as-is = (λ h. h, λ h. h)
@@ -107,11 +78,7 @@ is-le (fin true m e) (fin true n d) = (turned (m * up e * down d) (n * up d * do
 
 -- a product that is 0 with a factor above 0
 lost : (a b c : ℕ) → 0 < b → a * b ≤ 0 → a * c ≤ 0
-lost zero b c p h = omega arith
-lost (suc a) b c p h = absurd (lt-irrefl 0 (lt-of-lt-of-le (mul-pos (omega arith) p) h))
-
-under : (a b c : ℕ) → a ≤ 0 → a ≤ b
-under a b c h = omega arith
+lost a b c p h = le-of-eq (rw (factor-zero a b p (le-zero h)) (zero-mul c))
 
 trans : (x y z : Float) → Le x y → Le y z → Le x z
 trans nan y z h k = absurd h
@@ -138,11 +105,11 @@ trans (fin s m e) (fin t n d) (inf false) h k = tt
 trans (fin false m e) (fin false n d) (fin false o g) h k = through (m * up e) (n * up d) (o * up g) (down e) (down d) (down g) (down-pos d) h k
 trans (fin false m e) (fin false n d) (fin true o g) h k =
     (lost (m * up e) (down d) (down g) (down-pos d) (le-trans h (lost (n * up d) (down g) (down e) (down-pos g) (k .0))), lost (o * up g) (down d) (down e) (down-pos d) (k .1))
-trans (fin false m e) (fin true n d) (fin false o g) h k = under (m * up e * down g) (o * up g * down e) 0 (lost (m * up e) (down d) (down g) (down-pos d) (h .0))
+trans (fin false m e) (fin true n d) (fin false o g) h k = le-trans (lost (m * up e) (down d) (down g) (down-pos d) (h .0)) zero-le
 trans (fin false m e) (fin true n d) (fin true o g) h k =
     (lost (m * up e) (down d) (down g) (down-pos d) (h .0), lost (o * up g) (down d) (down e) (down-pos d) (le-trans k (lost (n * up d) (down e) (down g) (down-pos e) (h .1))))
 trans (fin true m e) (fin false n d) (fin false o g) h k = tt
-trans (fin true m e) (fin false n d) (fin true o g) h k = under (o * up g * down e) (m * up e * down g) 0 (lost (o * up g) (down d) (down e) (down-pos d) (k .1))
+trans (fin true m e) (fin false n d) (fin true o g) h k = le-trans (lost (o * up g) (down d) (down e) (down-pos d) (k .1)) zero-le
 trans (fin true m e) (fin true n d) (fin false o g) h k = tt
 trans (fin true m e) (fin true n d) (fin true o g) h k = through (o * up g) (n * up d) (m * up e) (down g) (down d) (down e) (down-pos d) k h
 

@@ -1,9 +1,8 @@
 -- A maximum and a clamp from the tests that a function makes: each test is one of the definition's own, so nothing is left but to put it in. Over no format.
-use mathlib.Core.Path.{_≡_, refl, sym}
-use mathlib.Core.Bool.{Bool, true, false, _||_, cond, true≢false}
+use mathlib.Core.Path.{_≡_, refl}
+use mathlib.Core.Bool.{Bool, true, false, _||_, cond, true≢false, or-true}
 use Prim.Native.Nat.{ℕ, _+_, _*_, _≤_, _<_}
-use native.Mathlib.Nat.{le-refl, lt-of-lt-of-le, mul-pos}
-use native.Mathlib.Omega.{arith}
+use native.Mathlib.Nat.{le-refl, lt-of-lt-of-le, mul-pos, le-add-left}
 use borrow.Author.Tests.{le-ltb, lt-ltb, ltb-false}
 use lib.Dec.{T, ltb, ltb→lt, lt→ltb}
 use lib.IntN.{ℤ}
@@ -36,12 +35,7 @@ clamp-nan low (fin s m e) = refl
 module _ (x y : Float) where
   pub max-less : lt x y ≡ true → y ≡ maximum x y
   unfolding maximum
-  max-less h = go (isNan x) (lt x y) h
-    where
-      go : (a b : Bool) → b ≡ true → y ≡ cond (a || b) y x
-      go true b k = refl
-      go false true k = refl
-      go false false k = absurd (true≢false (sym k))
+  max-less h = rw (h, or-true)
 
   pub max-nan : ne x x ≡ true → y ≡ maximum x y
   unfolding maximum isNan
@@ -96,10 +90,7 @@ max-positive x (fin true n d) p h = absurd p
 max-positive nan (fin false n d) p h = p
 max-positive (inf true) (fin false n d) p h = p
 max-positive (inf false) (fin false n d) p h = absurd (h refl)
-max-positive (fin true m e) (fin false n d) p h = rw (lt-ltb 0 (m * up e * down d + n * up d * down e) (go (m * up e * down d) (n * up d * down e) (above-zero n d e p))) p
-  where
-    go : (a b : ℕ) → 0 < b → 0 < a + b
-    go a b l = omega arith
+max-positive (fin true m e) (fin false n d) p h = rw (lt-ltb 0 (m * up e * down d + n * up d * down e) (lt-of-lt-of-le (above-zero n d e p) (le-add-left (n * up d * down e) (m * up e * down d)))) p
 max-positive (fin false m e) (fin false n d) p h = by (ltb (m * up e * down d) (n * up d * down e)) (ltb-false (m * up e * down d) (n * up d * down e))
   where
     by : (b : Bool) → (b ≡ false → n * up d * down e ≤ m * up e * down d) → T (positive (cond b (fin false n d) (fin false m e)))

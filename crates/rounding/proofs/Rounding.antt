@@ -2,11 +2,11 @@
 -- so the shifted digits are its half up.
 use mathlib.Core.Path.{_≡_, refl, sym, ap, _∙_, subst}
 use mathlib.Core.Bool.{Bool, true, false, not, cond}
-use Prim.Native.Nat.{ℕ, zero, suc, _+_, _-_, _*_, _/_, _%_, _^_, _≤_, _<_, min}
-use native.Mathlib.Nat.{le-trans, le-of-eq, lt-of-lt-of-le, mul-comm, mul-assoc, mul-one, div-one, mul-le-mul-right, mul-le-mul-left, mod-lt, div-eq-of-lt, div-div-eq-div-mul, add-div-right, le-div-iff-mul-le, min-eq-right, min-eq-left, le-add-right}
+use Prim.Native.Nat.{ℕ, zero, suc, _+_, _-_, _*_, _/_, _%_, _^_, _≤_, _<_, min, zero-le}
+use native.Mathlib.Nat.{le-trans, le-of-eq, lt-of-lt-of-le, lt-of-le-of-lt, ne-of-gt, ne-of-lt, mul-comm, mul-assoc, mul-one, div-one, mul-le-mul-right, mul-le-mul-left, mod-lt, div-eq-of-lt, div-div-eq-div-mul, add-div-right, le-div-iff-mul-le, min-eq-right, min-eq-left, le-add-right, add-sub-of-le, sub-add-cancel}
 use native.Mathlib.Omega.{arith}
 use lib.Dec.{T, leb, eqb, eqb→eq, lit≤}
-use lib.Pow.{pow-add, pow-pos, pow-mono, shl-lt, shl-shr, shr-shr, shl-exact, shr-le, le-ones}
+use lib.Pow.{pow-add, pow-pos, pow-mono, shl-lt, shl-shr, shr-shr, shl-exact, shr-le, le-ones, mod-mod-pow}
 use lib.Bits.{bitAnd, bitOr, and-mask, or-shifted-r}
 use lib.Ieee.{Float, nan, inf, fin, Format, binary64, prec, low, hid, ones, top, up, down, odd, fits, isNan, ofFields, ofBits, toBits, toUnsigned}
 use lib.Ieee.Fits.{down-pos}
@@ -78,14 +78,8 @@ size x = toUnsigned 64 (roundAway (withoutSign x))
 
 -- the size, where the digits have a leading one
 sized : (exponent fraction : ℕ) (x : Float) → 0 < exponent → exponent < 2047 → Shape binary64 exponent fraction x → size x ≡ min (halfUp ((2 ^ 52 + fraction) * 2 ^ (exponent - 1)) (2 ^ 1074)) (2 ^ 64 - 1)
-sized exponent fraction x a b (tiny z v) = absurd (go exponent a z)
-  where
-    go : (n : ℕ) → 0 < n → n ≡ 0 → ⊥
-    go n p q = omega arith
-sized exponent fraction x a b (endless s z v) = absurd (go exponent b z)
-  where
-    go : (n : ℕ) → n < 2047 → n ≡ 2047 → ⊥
-    go n p q = omega arith
+sized exponent fraction x a b (tiny z v) = absurd (ne-of-gt a z)
+sized exponent fraction x a b (endless s z v) = absurd (ne-of-lt b z)
 sized exponent fraction x a b (usual j z v) =
     rounded 64 x ((2 ^ 52 + fraction) * 2 ^ j) (2 ^ 1074) (pow-pos 1074) v ∙ ap (λ (i : ℕ). min (halfUp ((2 ^ 52 + fraction) * 2 ^ i) (2 ^ 1074)) (2 ^ 64 - 1)) (go exponent j z)
   where
@@ -113,21 +107,15 @@ half-all w a c C h = min-eq-right (le-trans (go (2 ^ w) (2 * a / c) (le-div-iff-
 doubled-down : (q j l : ℕ) → j ≤ l → 2 * (q * 2 ^ j) / 2 ^ l ≡ q * 2 / 2 ^ (l - j)
 doubled-down q j l h =
     ap (λ (k : ℕ). k / 2 ^ l) (sym (mul-assoc 2 q (2 ^ j)) ∙ ap (λ (k : ℕ). k * 2 ^ j) (mul-comm 2 q))
-    ∙ ap (λ (k : ℕ). q * 2 * 2 ^ j / 2 ^ k) (sym (join j l h))
+    ∙ ap (λ (k : ℕ). q * 2 * 2 ^ j / 2 ^ k) (sym (add-sub-of-le h))
     ∙ sym (shr-shr (q * 2 * 2 ^ j) j (l - j))
     ∙ ap (λ (k : ℕ). k / 2 ^ (l - j)) (shl-shr (q * 2) j)
-  where
-    join : (i m : ℕ) → i ≤ m → i + (m - i) ≡ m
-    join i m k = omega arith
 
 doubled-up : (q j l : ℕ) → l ≤ j → 2 * (q * 2 ^ j) / 2 ^ l ≡ 2 * (q * 2 ^ (j - l))
 doubled-up q j l h =
     ap (λ (k : ℕ). k / 2 ^ l)
-    (ap (λ (k : ℕ). 2 * (q * 2 ^ k)) (sym (rejoin j l h)) ∙ ap (λ (k : ℕ). 2 * (q * k)) (pow-add 2 (j - l) l) ∙ ap (λ (k : ℕ). 2 * k) (sym (mul-assoc q (2 ^ (j - l)) (2 ^ l))) ∙ sym (mul-assoc 2 (q * 2 ^ (j - l)) (2 ^ l)))
+    (ap (λ (k : ℕ). 2 * (q * 2 ^ k)) (sym (sub-add-cancel h)) ∙ ap (λ (k : ℕ). 2 * (q * k)) (pow-add 2 (j - l) l) ∙ ap (λ (k : ℕ). 2 * k) (sym (mul-assoc q (2 ^ (j - l)) (2 ^ l))) ∙ sym (mul-assoc 2 (q * 2 ^ (j - l)) (2 ^ l)))
     ∙ shl-shr (2 * (q * 2 ^ (j - l))) l
-  where
-    rejoin : (i m : ℕ) → m ≤ i → i - m + m ≡ i
-    rejoin i m k = omega arith
 
 with-lead : (fraction : ℕ) → fraction < 2 ^ 52 → 2 ^ 52 + fraction < 2 ^ 53
 with-lead fraction h = omega arith
@@ -146,10 +134,7 @@ small exponent fraction x l h (endless s z v) = absurd (go exponent h z)
     go e p q = omega arith
 
 large : (exponent fraction : ℕ) (x : Float) → 1086 < exponent → Shape binary64 exponent fraction x → 2 ^ 64 - 1 ≡ size x
-large exponent fraction x h (tiny z v) = absurd (go exponent h z)
-  where
-    go : (e : ℕ) → 1086 < e → e ≡ 0 → ⊥
-    go e p q = omega arith
+large exponent fraction x h (tiny z v) = absurd (ne-of-gt (lt-of-le-of-lt zero-le h) z)
 large exponent fraction x h (usual j z v) =
     sym (rounded 64 x ((2 ^ 52 + fraction) * 2 ^ j) (2 ^ 1074) (pow-pos 1074) v
     ∙ half-all 64 ((2 ^ 52 + fraction) * 2 ^ j) (2 ^ 1074) (pow-pos 1074)
@@ -175,6 +160,9 @@ down-to exponent fraction x l a b fields =
     room : (u n : ℕ) → u < 2 ^ 52 → n ≤ (2 ^ 52 + u) * 2 → (n + 1) / 2 ≤ 2 ^ 64 - 1
     room u n p r = omega arith
 
+shift-room : (exponent : ℕ) → exponent ≤ 1086 → 53 + (exponent - 1075) ≤ 64
+shift-room exponent h = omega arith
+
 -- from 1076 to 1086: the digits are shifted up
 up-to : (exponent fraction : ℕ) (x : Float) → fraction < 2 ^ 52 → 1075 < exponent → exponent ≤ 1086 → Shape binary64 exponent fraction x → (2 ^ 52 + fraction) * 2 ^ (exponent - 1075) ≡ size x
 up-to exponent fraction x l a b fields =
@@ -183,16 +171,13 @@ up-to exponent fraction x l a b fields =
     let is : halfUp (digits * 2 ^ (exponent - 1)) (2 ^ 1074) ≡ k =
     half-law (digits * 2 ^ (exponent - 1)) (2 ^ 1074) (pow-pos 1074) ∙ ap (λ (i : ℕ). (i + 1) / 2) (doubled-up digits (exponent - 1) 1074 (omega arith) ∙ ap (λ (i : ℕ). 2 * (digits * 2 ^ i)) (by exponent)) ∙ even k
     in
-    sym (sized exponent fraction x (omega arith) (omega arith) fields ∙ ap (λ (i : ℕ). min i (2 ^ 64 - 1)) is ∙ min-eq-left (le-ones 64 (lt-of-lt-of-le (shl-lt 53 (exponent - 1075) (with-lead fraction l)) (pow-mono (room exponent b)))))
+    sym (sized exponent fraction x (omega arith) (omega arith) fields ∙ ap (λ (i : ℕ). min i (2 ^ 64 - 1)) is ∙ min-eq-left (le-ones 64 (lt-of-lt-of-le (shl-lt 53 (exponent - 1075) (with-lead fraction l)) (pow-mono (shift-room exponent b)))))
   where
     by : (n : ℕ) → n - 1 - 1074 ≡ n - 1075
     by n = omega arith
 
     even : (n : ℕ) → (2 * n + 1) / 2 ≡ n
     even n = omega arith
-
-    room : (n : ℕ) → n ≤ 1086 → 53 + (n - 1075) ≤ 64
-    room n p = omega arith
 
 -- ---- what the proof of `round_size` cites, of an x that the format holds and that is no NaN, and of its pattern
 
@@ -207,10 +192,7 @@ module _ (x : Float) (F : T (fits binary64 x)) (N : T (not (isNan x))) where
   fraction = bits % 2 ^ 52
 
   fields : Shape binary64 (bits / 2 ^ 52) fraction x
-  fields = rw and-mask (rw (same (toBits binary64 x)) (shape binary64 x F N))
-    where
-      same : (b : ℕ) → b % 2 ^ 63 % 2 ^ 52 ≡ b % 2 ^ 52
-      same b = omega arith
+  fields = rw and-mask (rw (mod-mod-pow (toBits binary64 x) 11 52) (shape binary64 x F N))
 
   fraction-lt : fraction < 2 ^ 52
   fraction-lt = mod-lt bits (pow-pos 52)
@@ -239,8 +221,5 @@ module _ (x : Float) (F : T (fits binary64 x)) (N : T (not (isNan x))) where
   pub cut-up : 1075 < bits / 2 ^ 52 → bits / 2 ^ 52 ≤ 1086 → digits * 2 ^ (bits / 2 ^ 52 - 1075) % 2 ^ 64 ≡ size x
   cut-up a b =
       ap (λ (k : ℕ). k * 2 ^ (bits / 2 ^ 52 - 1075) % 2 ^ 64) digits-are
-      ∙ shl-exact 53 (bits / 2 ^ 52 - 1075) 64 (with-lead fraction fraction-lt) (room (bits / 2 ^ 52) b)
+      ∙ shl-exact 53 (bits / 2 ^ 52 - 1075) 64 (with-lead fraction fraction-lt) (shift-room (bits / 2 ^ 52) b)
       ∙ up-to (bits / 2 ^ 52) fraction x fraction-lt a b fields
-    where
-      room : (e : ℕ) → e ≤ 1086 → 53 + (e - 1075) ≤ 64
-      room e h = omega arith

@@ -2,38 +2,36 @@
 use mathlib.Core.Path.{_≡_, refl, sym, ap, _∙_}
 use mathlib.Core.Bool.{Bool, true, false, cond, true≢false}
 use mathlib.Core.Logic.{_⊎_, inl, inr, ⊎-map}
-use Prim.Native.Nat.{ℕ, zero, suc, _+_, _-_, _*_, _/_, _^_, _≤_, _<_, min}
-use native.Mathlib.Nat.{div-eq-of-lt, le-div-iff-mul-le, mul-pos, one-mul, mul-one, min-eq-right}
+use Prim.Native.Nat.{ℕ, zero, suc, _+_, _-_, _*_, _/_, _^_, _≤_, _<_, min, zero-le}
+use native.Mathlib.Nat.{le-of-lt, le-trans, div-eq-of-lt, le-div-iff-mul-le, zero-div, zero-mul, mul-pos, one-mul, mul-one, min-eq-right, zero-min, sub-le, suc-min-suc}
 use native.Mathlib.Omega.{arith}
 use borrow.Author.Tests.{ltb-false, le-ltb}
 use lib.Dec.{T, ltb}
 use lib.IntN.{ℤ, pos, negℤ}
-use lib.Pow.{pow-pos}
+use lib.Pow.{pow-pos, le-ones}
 use lib.Ieee.{Float, nan, inf, fin, up, down, lt, ne, neg, isNan, toUnsigned, toSigned}
 use lib.Ieee.Fits.{down-pos}
 use Rattle.numbers.specs.Signs.{toI64, withSign}
 use Rattle.rounding.specs.Floats.{halfUp, roundAway, withoutSign, maximum, float0}
 use Rattle.rounding.proofs.Picks.{max-nan-left}
 
-least : (a : ℕ) → 0 ≡ min 0 (a - 1)
-least a = omega arith
-
 -- ---- another width
+
+-- the end of the narrower width, and a number stopped at it, under the end of the wider
+ends : (a b : ℕ) → a ≤ b → a - 1 ≡ min (b - 1) (a - 1)
+ends a b h = omega arith
+
+again : (k a b : ℕ) → a ≤ b → min k (a - 1) ≡ min (min k (b - 1)) (a - 1)
+again k a b h = omega arith
 
 -- the narrower cast is the wider one, stopped at its own end
 pub narrow : (v w : ℕ) → 2 ^ v ≤ 2 ^ w → (y : Float) → toUnsigned v y ≡ min (toUnsigned w y) (2 ^ v - 1)
 unfolding toUnsigned
-narrow v w h nan = least (2 ^ v)
-narrow v w h (inf true) = least (2 ^ v)
-narrow v w h (inf false) = go (2 ^ v) (2 ^ w) h
-  where
-    go : (a b : ℕ) → a ≤ b → a - 1 ≡ min (b - 1) (a - 1)
-    go a b l = omega arith
-narrow v w h (fin true m e) = least (2 ^ v)
-narrow v w h (fin false m e) = go (m * up e / down e) (2 ^ v) (2 ^ w) h
-  where
-    go : (k a b : ℕ) → a ≤ b → min k (a - 1) ≡ min (min k (b - 1)) (a - 1)
-    go k a b l = omega arith
+narrow v w h nan = sym (zero-min (2 ^ v - 1))
+narrow v w h (inf true) = sym (zero-min (2 ^ v - 1))
+narrow v w h (inf false) = ends (2 ^ v) (2 ^ w) h
+narrow v w h (fin true m e) = sym (zero-min (2 ^ v - 1))
+narrow v w h (fin false m e) = again (m * up e / down e) (2 ^ v) (2 ^ w) h
 
 -- ---- a sign
 
@@ -46,10 +44,7 @@ Sign s (fin t m e) = (s ≡ t) ⊎ (m * up e / down e ≡ 0)
 -- what the test `x < 0.0` says of a number
 pub not-below : (m : ℕ) (e : ℤ) → lt (fin false m e) float0 ≡ false
 unfolding lt
-not-below m e = le-ltb (m * up e * 1) (0 * down e) (go (m * up e) (down e))
-  where
-    go : (n d : ℕ) → 0 * d ≤ n * 1
-    go n d = omega arith
+not-below m e = le-ltb (m * up e * 1) (0 * down e) (rw zero-mul zero-le)
 
 below-zero : (t : Bool) (m : ℕ) (e : ℤ) → (lt (fin t m e) float0 ≡ t) ⊎ (m * up e ≡ 0)
 unfolding lt
@@ -63,9 +58,6 @@ below-zero true m e = go (ltb 0 (m * up e * 1 + 0 * down e)) (ltb-false 0 (m * u
     go true h = inl refl
     go false h = inr (no-size (m * up e) (down e) (h refl))
 
-no-part : (n d : ℕ) → n ≡ 0 → 0 < d → n / d ≡ 0
-no-part n d z D = rw z (div-eq-of-lt D)
-
 pub no-half : (n d : ℕ) → n ≡ 0 → 0 < d → halfUp n d * 1 / 1 ≡ 0
 no-half n d z D = ap (λ (k : ℕ). k * 1 / 1) (div-eq-of-lt (go n d z D))
   where
@@ -77,7 +69,7 @@ sign-own : (x : Float) → Sign (lt x float0) x
 unfolding lt
 sign-own nan = tt
 sign-own (inf t) = refl
-sign-own (fin t m e) = ⊎-map (λ h. h) (λ z. no-part (m * up e) (down e) z (down-pos e)) (below-zero t m e)
+sign-own (fin t m e) = ⊎-map (λ h. h) (λ z. rw z (zero-div (down e))) (below-zero t m e)
 
 sign-rounded : (x : Float) → Sign (lt x float0) (roundAway x)
 unfolding lt roundAway
@@ -94,18 +86,12 @@ stopped h s n = cond s (negℤ (pos (min n (2 ^ h)))) (pos (min n (2 ^ h - 1)))
 -- at an i64 this is what `numbers::signed` answers
 pub at-i64 : (s : Bool) (n : ℕ) → toI64 (withSign s n) ≡ stopped 63 s n
 at-i64 true zero = refl
-at-i64 true (suc n) = sym (ap (λ (k : ℕ). negℤ (pos k)) (go n))
-  where
-    go : (n : ℕ) → min (suc n) (2 ^ 63) ≡ suc (min n (2 ^ 63 - 1))
-    go n = omega arith
+at-i64 true (suc n) = sym (ap (λ (k : ℕ). negℤ (pos k)) (suc-min-suc n (2 ^ 63 - 1)))
 at-i64 false n = refl
 
 stopped-none : (h : ℕ) (s : Bool) → stopped h s 0 ≡ pos 0
-stopped-none h true = ap (λ (k : ℕ). negℤ (pos k)) (go (2 ^ h))
-  where
-    go : (a : ℕ) → min 0 a ≡ 0
-    go a = omega arith
-stopped-none h false = ap pos (sym (least (2 ^ h)))
+stopped-none h true = ap (λ (k : ℕ). negℤ (pos k)) (zero-min (2 ^ h))
+stopped-none h false = ap pos (zero-min (2 ^ h - 1))
 
 -- stopping at w bits first changes nothing
 module _ (h w : ℕ) (narrower : 2 ^ h < 2 ^ w) where
@@ -114,20 +100,11 @@ module _ (h w : ℕ) (narrower : 2 ^ h < 2 ^ w) where
     where
       go : (k a b : ℕ) → a < b → min k a ≡ min (min k (b - 1)) a
       go k a b l = omega arith
-  stopped-again false n = ap pos (go n (2 ^ h) (2 ^ w) narrower)
-    where
-      go : (k a b : ℕ) → a < b → min k (a - 1) ≡ min (min k (b - 1)) (a - 1)
-      go k a b l = omega arith
+  stopped-again false n = ap pos (again n (2 ^ h) (2 ^ w) (le-of-lt narrower))
 
   stopped-most : (s : Bool) → cond s (negℤ (pos (2 ^ h))) (pos (2 ^ h - 1)) ≡ stopped h s (2 ^ w - 1)
-  stopped-most true = ap (λ (k : ℕ). negℤ (pos k)) (go (2 ^ h) (2 ^ w) narrower)
-    where
-      go : (a b : ℕ) → a < b → a ≡ min (b - 1) a
-      go a b l = omega arith
-  stopped-most false = ap pos (go (2 ^ h) (2 ^ w) narrower)
-    where
-      go : (a b : ℕ) → a < b → a - 1 ≡ min (b - 1) (a - 1)
-      go a b l = omega arith
+  stopped-most true = ap (λ (k : ℕ). negℤ (pos k)) (sym (min-eq-right (le-ones w narrower)))
+  stopped-most false = ap pos (ends (2 ^ h) (2 ^ w) (le-of-lt narrower))
 
 unsigned-by : (w : ℕ) (s : Bool) (y : Float) → Sign s y → toUnsigned w y ≡ cond s 0 (toUnsigned w (withoutSign y))
 unfolding toUnsigned withoutSign
@@ -139,8 +116,8 @@ unsigned-by w s (fin t m e) (inr z) = rw z (go t s (2 ^ w))
   where
     go : (t s : Bool) (a : ℕ) → cond t 0 (min 0 (a - 1)) ≡ cond s 0 (min 0 (a - 1))
     go true true a = refl
-    go true false a = least a
-    go false true a = sym (least a)
+    go true false a = sym (zero-min (a - 1))
+    go false true a = zero-min (a - 1)
     go false false a = refl
 
 signed-by : (h w : ℕ) → 2 ^ h < 2 ^ w → (s : Bool) (y : Float) → Sign s y → toSigned h y ≡ stopped h s (toUnsigned w (withoutSign y))
@@ -161,9 +138,9 @@ size-by w false (inf false) h = refl
 size-by w true (fin true m e) h = refl
 size-by w false (fin false m e) h = refl
 size-by w true (fin false m e) (inl h) = absurd (true≢false h)
-size-by w true (fin false m e) (inr z) = rw z (least (2 ^ w))
+size-by w true (fin false m e) (inr z) = rw z (sym (zero-min (2 ^ w - 1)))
 size-by w false (fin true m e) (inl h) = absurd (true≢false (sym h))
-size-by w false (fin true m e) (inr z) = rw z (least (2 ^ w))
+size-by w false (fin true m e) (inr z) = rw z (sym (zero-min (2 ^ w - 1)))
 
 size-rounded : (x : Float) → withoutSign (roundAway x) ≡ roundAway (withoutSign x)
 unfolding withoutSign roundAway
@@ -218,10 +195,7 @@ cut-all w (fin true m e) h k = absurd (go (m * up e) (2 ^ w * down e) (mul-pos (
   where
     go : (n d : ℕ) → 0 < d → n * 1 + d ≤ 0 → ⊥
     go n d p q = omega arith
-cut-all w (fin false m e) h k = sym (min-eq-right (go (2 ^ w) (m * up e / down e) (le-div-iff-mul-le (down-pos e) .1 (rw mul-one at (rw one-mul at (ltb-false (m * up e * 1) (1 * 2 ^ w * down e) h))))))
-  where
-    go : (a n : ℕ) → a ≤ n → a - 1 ≤ n
-    go a n p = omega arith
+cut-all w (fin false m e) h k = sym (min-eq-right (le-trans (sub-le (2 ^ w) 1) (le-div-iff-mul-le (down-pos e) .1 (rw mul-one at (rw one-mul at (ltb-false (m * up e * 1) (1 * 2 ^ w * down e) h))))))
 
 pub cut-nan : (w : ℕ) (x : Float) → x ≡ nan → 0 ≡ toUnsigned w x
 unfolding toUnsigned
@@ -235,11 +209,11 @@ module _ (w : ℕ) where
 
   picked : (x : Float) (b : Bool) → (b ≡ true → toUnsigned w x ≡ 0) → toUnsigned w (cond b float0 x) ≡ toUnsigned w x
   unfolding toUnsigned
-  picked x true h = sym (h refl ∙ least (2 ^ w))
+  picked x true h = zero-min (2 ^ w - 1) ∙ sym (h refl)
   picked x false h = refl
 
   pub max-zero : (x : Float) → toUnsigned w (maximum x float0) ≡ toUnsigned w x
   unfolding maximum isNan toUnsigned
-  max-zero nan = ap (λ (y : Float). toUnsigned w y) (max-nan-left float0) ∙ sym (least (2 ^ w))
+  max-zero nan = ap (λ (y : Float). toUnsigned w y) (max-nan-left float0) ∙ zero-min (2 ^ w - 1)
   max-zero (inf s) = picked (inf s) (lt (inf s) float0) (below-none (inf s))
   max-zero (fin s m e) = picked (fin s m e) (lt (fin s m e) float0) (below-none (fin s m e))

@@ -1,13 +1,13 @@
 -- The order of the floats that are not below zero, an infinity included, which the rounded operations keep: each works out a fraction of two numbers, and
 -- of two fractions the larger rounds to the larger. `Up x y` says that neither is negative or a NaN and that x is at most y.
-use mathlib.Core.Path.{_≡_, refl, sym, ap, _∙_, subst}
-use mathlib.Core.Bool.{Bool, true, false, not, _&&_, _||_, cond, true≢false}
-use Prim.Native.Nat.{ℕ, zero, suc, _+_, _-_, _*_, _^_, _≤_, _<_}
-use native.Mathlib.Nat.{le-refl, le-trans, le-of-eq, lt-of-lt-of-le, lt-of-le-of-lt, lt-irrefl, not-le-of-lt, mul-comm, mul-assoc, mul-left-comm, mul-right-comm, mul-le-mul-right, mul-pos, mul-sub, mul-mul-mul-comm, add-mul, mul-one, mul-lt-mul-of-pos-right, lt-of-mul-lt-mul-right}
-use native.Mathlib.Omega.{arith}
+use mathlib.Core.Path.{_≡_, sym, ap, _∙_, subst}
+use mathlib.Core.Bool.{Bool, true, false, _&&_, _||_, cond, true≢false}
+use Prim.Native.Nat.{ℕ, zero, suc, _+_, _-_, _*_, _^_, _≤_, _<_, zero-le}
+use native.Mathlib.Nat.{le-refl, le-trans, le-of-eq, lt-of-lt-of-le, lt-of-le-of-lt, not-le-of-lt, mul-comm, mul-assoc, mul-left-comm, mul-right-comm, mul-le-mul-right, mul-pos, mul-sub, mul-mul-mul-comm, add-mul, mul-one, mul-lt-mul-of-pos-right, lt-of-mul-lt-mul-right, add-le-add, le-add-right, sub-add-cancel, ne-of-gt, zero-mul}
+use native.Mathlib.Omega.{arith, by-contra}
 use lib.IntN.{ℤ, pos, negsuc}
-use borrow.Author.Tests.{ne-eqb}
-use lib.Dec.{T, ltb, eqb, ltb→lt, lt→ltb, nltb→le}
+use borrow.Author.Tests.{ne-eqb, le-ltb, lt-ltb}
+use lib.Dec.{T, ltb, eqb, ltb→lt}
 use lib.Pow.{pow-add, pow-pos, pow-lt}
 use lib.Ieee.{Float, nan, inf, fin, Format, prec, emax, low, up, down, fits, le, lt, odd, units, round, add, sub, mul, div, sum}
 use lib.Ieee.Fits.{up-pos, down-pos, round-is}
@@ -90,14 +90,7 @@ le→up x y p q = by-two (λ x y. T (le x y) → Up x y) (λ h. tt) (λ n d h. a
 
 -- where the test fails, the order is the other way
 not-le : (a b : ℕ) → (ltb a b || (eqb a b && true)) ≡ false → b ≤ a
-not-le a b = go (ltb a b) (lt→ltb a b)
-  where
-    go : (x : Bool) → (a < b → T x) → (x || (eqb a b && true)) ≡ false → b ≤ a
-    go true p e = absurd (true≢false e)
-    go false p e = by-two p
-      where
-        by-two : (a < b → ⊥) → b ≤ a
-        by-two n = omega arith
+not-le a b e = by-contra b a (λ h. true≢false (rw (lt-ltb a b h) at e))
 
 pub nle→up : (x y : Float) → Up x x → Up y y → le x y ≡ false → Up y x
 unfolding le lt
@@ -143,7 +136,7 @@ scaled : (a b c d n e : ℕ) → a * d ≤ c * b → a * n * (d * e) ≤ c * n *
 scaled a b c d n e h = le-trans (le-of-eq (mul-mul-mul-comm a n d e)) (le-trans (mul-le-mul-right (n * e) h) (le-of-eq (mul-mul-mul-comm c b n e)))
 
 pub not-zero : (n : ℕ) → T (ltb 0 n) → eqb n 0 ≡ false
-not-zero n t = ne-eqb n 0 (λ e. lt-irrefl 0 (subst (λ (z : ℕ). 0 < z) e (ltb→lt 0 n t)))
+not-zero n t = ne-eqb n 0 (ne-of-gt (ltb→lt 0 n t))
 
 -- a product with a factor that is finite and above zero
 pub mul-up : (f : Format) (x y c : Float) → T (positive c) → Up x y → Up (mul f x c) (mul f y c)
@@ -186,10 +179,7 @@ add-up f x x' y y' h k =
     sums x p x' p' y q y' q' h k =
         let a : x * q * (p' * q') ≤ x' * q' * (p * q) = le-trans (le-of-eq (mul-mul-mul-comm x q p' q')) (le-trans (mul-le-mul-right (q * q') h) (le-of-eq (ap (λ (z : ℕ). x' * p * z) (mul-comm q q') ∙ mul-mul-mul-comm x' p q' q))) in
         let b : y * p * (p' * q') ≤ y' * p' * (p * q) = le-trans (le-of-eq (ap (λ (z : ℕ). y * p * z) (mul-comm p' q') ∙ mul-mul-mul-comm y p q' p')) (le-trans (mul-le-mul-right (p * p') k) (le-of-eq (ap (λ (z : ℕ). y' * q * z) (mul-comm p p') ∙ mul-mul-mul-comm y' q p' p ∙ ap (λ (z : ℕ). y' * p' * z) (mul-comm q p)))) in
-        le-trans (le-of-eq (add-mul (x * q) (y * p) (p' * q'))) (le-trans (both a b) (le-of-eq (sym (add-mul (x' * q') (y' * p') (p * q)))))
-      where
-        both : {a b c d : ℕ} → a ≤ b → c ≤ d → a + c ≤ b + d
-        both h k = omega arith
+        le-trans (le-of-eq (add-mul (x * q) (y * p) (p' * q'))) (le-trans (add-le-add a b) (le-of-eq (sym (add-mul (x' * q') (y' * p') (p * q)))))
 
 -- ---- a value that the format holds is at most itself with something added
 
@@ -204,24 +194,14 @@ module _ (f : Format) (m : ℕ) (e : ℤ) (F : T (fits f (fin false (suc m) e)))
       )
       h
 
-pow-back : (a b : ℕ) → 2 ^ a ≤ 2 ^ b → a ≤ b
-pow-back a b h = go (ltb b a) (ltb→lt b a) (nltb→le b a)
-  where
-    go : (x : Bool) → (T x → b < a) → (T (not x) → a ≤ b) → a ≤ b
-    go true p q = absurd (not-le-of-lt (pow-lt (p tt)) h)
-    go false p q = q tt
-
 own-exact : (f : Format) (m : ℕ) (e : ℤ) → T (fits f (fin false (suc m) e)) → HasValue (round f false (suc m * up e) (down e)) false (suc m * up e) (down e)
 own-exact f m (pos k) F = own f m (pos k) F (k + low f) (mul-assoc (suc m) (2 ^ k) (2 ^ low f) ∙ ap (λ (z : ℕ). suc m * z) (sym (pow-add 2 k (low f))) ∙ sym (mul-one (suc m * 2 ^ (k + low f))))
 own-exact f m (negsuc k) F =
     own f m (negsuc k) F (low f - suc k)
     (ap (λ (z : ℕ). z * 2 ^ low f) (mul-one (suc m))
-    ∙ ap (λ (z : ℕ). suc m * 2 ^ z) (sym (gap (suc k) (low f) (pow-back (suc k) (low f) (coarse f false m (negsuc k) F))))
+    ∙ ap (λ (z : ℕ). suc m * 2 ^ z) (sym (sub-add-cancel (by-contra (suc k) (low f) (λ h. not-le-of-lt (pow-lt h) (coarse f false m (negsuc k) F)))))
     ∙ ap (λ (z : ℕ). suc m * z) (pow-add 2 (low f - suc k) (suc k))
     ∙ sym (mul-assoc (suc m) (2 ^ (low f - suc k)) (2 ^ suc k)))
-  where
-    gap : (a b : ℕ) → a ≤ b → b - a + a ≡ b
-    gap a b h = omega arith
 
 up-value : (m : ℕ) (e : ℤ) (y : Float) → HasValue y false (m * up e) (down e) → Up (fin false m e) y
 up-value m e nan h = absurd h
@@ -230,10 +210,7 @@ up-value m e (fin true n d) h = absurd (true≢false (h .0))
 up-value m e (fin false n d) h = le-of-eq (sym (h .1))
 
 pub from-zero : (e : ℤ) (y : Float) → Up y y → Up (fin false zero e) y
-from-zero e = by-one (λ y. Up (fin false zero e) y) tt (λ n d. go (up e) (down d) (n * up d * down e))
-  where
-    go : (a b c : ℕ) → 0 * a * b ≤ c
-    go a b c = omega arith
+from-zero e = by-one (λ y. Up (fin false zero e) y) tt (λ n d. rw (zero-mul, zero-mul) zero-le)
 
 round-self : (f : Format) (m : ℕ) (e : ℤ) → T (fits f (fin false m e)) → Up (fin false m e) (round f false (m * up e) (down e))
 round-self f zero e F = from-zero e (round f false (zero * up e) (down e)) (round-own f (zero * up e) (down e))
@@ -246,25 +223,14 @@ add-more f x y F h k =
     (λ m e n d F. up-trans (fin false m e) (round f false (m * up e) (down e)) (round f false (m * up e * down d + n * up d * down e) (down e * down d)) (round-self f m e F)
     (round-up f (m * up e) (down e) (m * up e * down d + n * up d * down e) (down e * down d) (down-pos e) (mul-pos (down-pos e) (down-pos d))
     (le-trans (le-of-eq (ap (λ (z : ℕ). m * up e * z) (mul-comm (down e) (down d)) ∙ sym (mul-assoc (m * up e) (down d) (down e))))
-    (mul-le-mul-right (down e) (more (m * up e * down d) (n * up d * down e))))))
+    (mul-le-mul-right (down e) (le-add-right (m * up e * down d) (n * up d * down e))))))
     x y h k F
-  where
-    more : (a b : ℕ) → a ≤ a + b
-    more a b = omega arith
 
 -- ---- a difference that is not below zero grows with what it is taken from
 
-pick : (f : Format) (a b c : ℕ) → b ≤ a → sum f false a true b c ≡ round f false (a - b) c
-unfolding sum
-pick f a b c h = go (ltb a b) (ltb→lt a b)
-  where
-    go : (t : Bool) → (T t → a < b) → cond t (round f true (b - a) c) (round f false (a - b) c) ≡ round f false (a - b) c
-    go true k = absurd (not-le-of-lt (k tt) h)
-    go false k = refl
-
 sub-is : (f : Format) (m : ℕ) (e : ℤ) (n : ℕ) (d : ℤ) → Up (fin false n d) (fin false m e) → sub f (fin false m e) (fin false n d) ≡ round f false (m * up e * down d - n * up d * down e) (down e * down d)
-unfolding sub
-sub-is f m e n d h = pick f (m * up e * down d) (n * up d * down e) (down e * down d) h
+unfolding sub sum
+sub-is f m e n d h = rw (le-ltb (m * up e * down d) (n * up d * down e) h)
 
 -- X / dx - Y / dy ≤ Z / dz - Y / dy for X / dx ≤ Z / dz
 grow : (X dx Y dy Z dz : ℕ) → X * dz ≤ Z * dx → (X * dy - Y * dx) * (dz * dy) ≤ (Z * dy - Y * dz) * (dx * dy)
