@@ -1,31 +1,24 @@
 -- Lines and words by their places in a text.
 use mathlib.Core.Path.{_≡_, refl, sym, ap, _∙_}
-use mathlib.Core.Bool.{Bool, true, false, not, _&&_, and-false}
+use mathlib.Core.Bool.{Bool, true, false, _&&_, and-false}
 use mathlib.Core.List.{List, [], _∷_}
-use Prim.Native.Nat.{ℕ, zero, suc, _+_, _-_, _≤_, _<_}
+use Prim.Native.Nat.{ℕ, suc, _+_, _-_, _≤_, _<_}
 use native.Mathlib.Omega.{arith}
 use native.Mathlib.Numerals.{add-one}
 use borrow.Author.Tests.{eq-eqb, ne-eqb}
 use lib.Dec.{eqb}
-use lib.ListN.{length, take, drop, getD, length-drop}
-use lib.Seq.{drop-cons, drop-drop, drop-length, length-take-le}
+use lib.ListN.{length, take, drop, getD, length-drop, drop-of-length-le}
+use lib.Seq.{drop-cons, drop-drop, drop-length}
 use Rattle.splits.specs.declared.found.Found.the-variants.{One, Two, Other}
-use Rattle.splits.specs.Splits.{blank, inked, other, run, past, part, split, filled, lines, words, body, Few, single, double, neither, few, same}
+use Rattle.splits.specs.Splits.{blank, inked, other, run, past, part, split, filled, lines, words, body, few, same}
 use Rattle.splits.specs.Readings.{readFound}
-use Rattle.splits.proofs.Runs.{run-short}
 use Rattle.splits.proofs.Parts.{split-first, skip, begins, word-first}
-
-drop-none : (text : List ℕ) (place : ℕ) → length text ≤ place → drop place text ≡ []
-drop-none [] zero h = refl
-drop-none [] (suc place) h = refl
-drop-none (byte ∷ text) zero h = let z : ⊥ = omega arith in absurd z
-drop-none (byte ∷ text) (suc place) h = drop-none text place (omega arith)
 
 -- ---- lines
 
 pub no-lines : (text : List ℕ) (place : ℕ) → length text ≤ place → lines (drop place text) ≡ []
 unfolding lines split
-no-lines text place h = ap lines (drop-none text place h)
+no-lines text place h = ap lines (drop-of-length-le text h)
 
 pub next-line : (text : List ℕ) (place end : ℕ) → place < length text → end ≡ past (other 10) text place
     → lines (drop place text) ≡ part text place end ∷ lines (drop (end + 1) text)
