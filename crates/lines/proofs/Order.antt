@@ -3,18 +3,15 @@ use mathlib.Core.Path.{_≡_, refl, sym, ap, _∙_}
 use mathlib.Core.Bool.{Bool, true, false, cond, _&&_, and-true, and-false}
 use mathlib.Core.List.{List, [], _∷_}
 use Prim.Native.Nat.{ℕ, zero, suc, _+_, _≤_, _<_}
-use native.Mathlib.Nat.{le-trans, le-of-suc-le-suc, not-suc-le-zero}
+use native.Mathlib.Nat.{le-trans, le-of-suc-le-suc, not-suc-le-zero, add-zero}
 use native.Mathlib.Numerals.{add-one}
 use native.Mathlib.Omega.{arith}
 use borrow.Author.Tests.{leb-true, lt-leb, le-leb, ltb-true, ltb-false, ne-eqb}
 use lib.Dec.{leb, ltb, eqb}
 use lib.ListN.{length, getD, drop, drop-of-length-le}
 use lib.Seq.{drop-cons}
-use Rattle.lines.specs.Lines.{ascendsFrom, ascends}
-
-both : (a b : Bool) → a && b ≡ true → (a ≡ true) × (b ≡ true)
-both true b h = (refl, h)
-both false b h = (cc, cc)
+use Rattle.numbers.proofs.Laws.{both}
+use Rattle.lines.specs.Lines.{ascendsFrom}
 
 -- the first line, and the others
 pub up-step : (low line : ℕ) (rest : List ℕ) → ascendsFrom low (line ∷ rest) ≡ true → (low ≤ line) × (ascendsFrom line rest ≡ true)
@@ -35,9 +32,6 @@ ordered low (line ∷ rest) h (suc p) (suc q) o l = ordered line rest (up-step l
 
 -- ---- a walk that stands at a place, behind a line `low`
 
-no-more : (falls : ℕ) → falls + 0 ≡ falls
-no-more falls = omega arith
-
 module _ (lines : List ℕ) (low place : ℕ) where
   here : place < length lines → ascendsFrom low (drop place lines) ≡ leb low (getD lines place 0) && ascendsFrom (getD lines place 0) (drop (place + 1) lines)
   unfolding ascendsFrom
@@ -56,7 +50,7 @@ module _ (lines : List ℕ) (low place : ℕ) where
       ap (λ (t : Bool). t && ascendsFrom (getD lines place 0) (drop (place + 1) lines)) (ne-eqb (falls + 1) 0 (λ q. omega (arith, q)))
       ∙ sym (ap (λ (t : Bool). eqb falls 0 && t) (descends h (ltb-true _ _ e)) ∙ and-false (eqb falls 0))
   by-fall falls h false e =
-      ap (λ (n : ℕ). eqb n 0 && ascendsFrom (getD lines place 0) (drop (place + 1) lines)) (no-more falls)
+      ap (λ (n : ℕ). eqb n 0 && ascendsFrom (getD lines place 0) (drop (place + 1) lines)) (add-zero falls)
       ∙ ap (λ (t : Bool). eqb falls 0 && t) (goes-on h (ltb-false _ _ e))
 
   pub one-more : (falls more : ℕ) → place < length lines → more ≡ cond (ltb (getD lines place 0) low) 1 0 →

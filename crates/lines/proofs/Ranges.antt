@@ -1,21 +1,17 @@
 -- The lines of a range stand side by side: between the places of its two ends.
 use mathlib.Core.Path.{_≡_, refl, sym, ap, _∙_}
-use mathlib.Core.Logic.{_⊎_, inl, inr}
 use mathlib.Core.Bool.{Bool, true, false, cond, and-false}
 use mathlib.Core.List.{List, [], _∷_}
-use Prim.Native.Nat.{ℕ, zero, suc, _+_, _-_, _≤_, _<_, zero-le}
-use native.Mathlib.Nat.{le-refl, le-of-suc-le-suc, not-suc-le-zero, sub-zero}
+use Prim.Native.Nat.{ℕ, zero, suc, _-_, _≤_, _<_, zero-le}
+use native.Mathlib.Nat.{le-refl, le-of-suc-le-suc, not-suc-le-zero, sub-zero, le-trans}
 use native.Mathlib.Omega.{arith}
-use borrow.Author.Tests.{leb-true, leb-false, lt-leb, le-leb, lt-ltb, le-ltb}
-use lib.Dec.{leb, ltb}
-use lib.ListN.{length, getD, take, drop}
+use borrow.Author.Tests.{leb-true, lt-leb, le-leb, lt-ltb, le-ltb}
+use lib.Dec.{leb}
+use lib.ListN.{length, take, drop}
 use lib.Seq.{take-nil, drop-nil}
 use Rattle.numbers.specs.Answers.{Answer, accepted, refused}
-use Rattle.numbers.proofs.Laws.{one-answer}
-use Rattle.lines.specs.declared.LinesReport.{LinesReport}
-use Rattle.lines.specs.declared.LinesReport.the-variants.{Fine}
+use Rattle.numbers.proofs.Laws.{by-order}
 use Rattle.lines.specs.Lines.{ascends, linesAnswer, between, unlessRefused, rangeOf}
-use Rattle.lines.specs.Readings.{readLines}
 use Rattle.lines.specs.Places.{Splits}
 
 -- ---- a place, without the first line
@@ -69,23 +65,14 @@ module _ (start end : ℕ) (h : start ≤ end) where
       ∙ ap (λ (n : ℕ). take n (drop a rest)) (let m : b - a ≡ suc b - suc a = omega arith in m)
 
   pub places-rise : (lines : List ℕ) (a b : ℕ) → Splits start lines a → Splits end lines b → a ≤ b
-  places-rise lines a b s t = go (leb a b) refl
-    where
-      go : (q : Bool) → leb a b ≡ q → a ≤ b
-      go true e = leb-true a b e
-      go false e =
-          let l : b < a = leb-false a b e in
-          absurd (omega (arith, s .below b l, t .from b (le-refl b) (omega (arith, s .within))))
+  places-rise lines a b s t = by-order b a (λ l. absurd (omega (arith, s .below b l, t .from b (le-refl b) (omega (arith, s .within))))) (λ l. l)
 
 -- no line is from start up to end where start is not below end
 pub none-between : (start end : ℕ) → end ≤ start → (lines : List ℕ) → between start end lines ≡ []
 unfolding between
 none-between start end h [] = refl
-none-between start end h (line ∷ rest) = go (leb start line) refl (none-between start end h rest)
-  where
-    go : (b : Bool) → leb start line ≡ b → between start end rest ≡ [] → between start end (line ∷ rest) ≡ []
-    go true e r = line-past start end line rest (omega (arith, leb-true start line e)) ∙ r
-    go false e r = line-before start end line rest (leb-false start line e) ∙ r
+none-between start end h (line ∷ rest) =
+    by-order line start (line-before start end line rest) (λ l. line-past start end line rest (le-trans h l)) ∙ none-between start end h rest
 
 -- ---- lines that the test passes
 
