@@ -21,13 +21,13 @@ one words = go (eqb (words % 4) 0) (leb words 16384) refl refl
     go false r ep er e = absurd (omega arith)
 
 -- the number is 3 or 4 where it refuses
+refuses : (p r : Bool) → (_≡_ {A = ℕ} (cond p (cond r 0 4) 3) 0 → ⊥) → (_≡_ {A = ℕ} (cond p (cond r 0 4) 3) 3) ⊎ (_≡_ {A = ℕ} (cond p (cond r 0 4) 3) 4)
+refuses true true f = absurd (f refl)
+refuses true false f = inr refl
+refuses false r f = inl refl
+
 pub one-refuses : (words : ℕ) → (oneNumber words ≡ 0 → ⊥) → (oneNumber words ≡ 3) ⊎ (oneNumber words ≡ 4)
-one-refuses words = go (eqb (words % 4) 0) (leb words 16384)
-  where
-    go : (p r : Bool) → (_≡_ {A = ℕ} (cond p (cond r 0 4) 3) 0 → ⊥) → (_≡_ {A = ℕ} (cond p (cond r 0 4) 3) 3) ⊎ (_≡_ {A = ℕ} (cond p (cond r 0 4) 3) 4)
-    go true true f = absurd (f refl)
-    go true false f = inr refl
-    go false r f = inl refl
+one-refuses words = refuses (eqb (words % 4) 0) (leb words 16384)
 
 pub record Two (a b : ℕ) : Type 0 where
   pub first : One a
@@ -48,9 +48,4 @@ two a b = go (eqb (a % 4) 0) (eqb (b % 4) 0) (leb a 16384) (leb b 16384) refl re
     go false q r s ep eq er es e = absurd (omega arith)
 
 pub two-refuses : (a b : ℕ) → (twoNumber a b ≡ 0 → ⊥) → (twoNumber a b ≡ 3) ⊎ (twoNumber a b ≡ 4)
-two-refuses a b = go (eqb (a % 4) 0 && eqb (b % 4) 0) (leb a 16384 && leb b 16384)
-  where
-    go : (p r : Bool) → (_≡_ {A = ℕ} (cond p (cond r 0 4) 3) 0 → ⊥) → (_≡_ {A = ℕ} (cond p (cond r 0 4) 3) 3) ⊎ (_≡_ {A = ℕ} (cond p (cond r 0 4) 3) 4)
-    go true true f = absurd (f refl)
-    go true false f = inr refl
-    go false r f = inl refl
+two-refuses a b = refuses (eqb (a % 4) 0 && eqb (b % 4) 0) (leb a 16384 && leb b 16384)
