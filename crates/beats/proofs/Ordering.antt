@@ -1,12 +1,12 @@
 -- The order of beats is that of their exact values: total, and kept by adding one beat to both and by a factor above 0.
-use mathlib.Core.Path.{_≡_, refl, sym, ap, _∙_, subst}
-use mathlib.Core.Bool.{Bool, true, false}
+use mathlib.Core.Path.{_≡_, sym, ap, _∙_, subst}
+use mathlib.Core.Bool.{Bool, true}
 use Prim.Native.Nat.{ℕ, _*_, _<_}
-use native.Mathlib.Nat.{mul-pos, mul-comm, mul-assoc}
+use native.Mathlib.Nat.{mul-pos, mul-comm, mul-assoc, mul-left-comm}
 use native.Mathlib.Omega.{arith}
-use lib.Dec.{T}
 use lib.IntN.{ℤ, pos, negℤ, _+ℤ_, _-ℤ_, _*ℤ_, +ℤ-idl, zero-*ℤ}
 use lib.Signed.{ltZ}
+use lib.Ieee.Bits.{is-true}
 use Rattle.numbers.specs.declared.exact.Order.{Order}
 use Rattle.numbers.specs.declared.exact.Order.the-variants.{Equal}
 use Rattle.numbers.specs.Answers.{accepted}
@@ -64,10 +64,7 @@ module _ (a b c : Beat) where
   first-value = subst (λ (k : ℕ). Worth a first k) (sym (mul-assoc (a .den) (b .den) (c .den))) (own-value a (b .den * c .den))
 
   second-value : Worth b second all
-  second-value = subst (λ (k : ℕ). Worth b second k) (turn (a .den) (b .den) (c .den)) (own-value b (a .den * c .den))
-    where
-      turn : (x y z : ℕ) → y * (x * z) ≡ x * y * z
-      turn x y z = omega arith
+  second-value = subst (λ (k : ℕ). Worth b second k) (mul-left-comm (b .den) (a .den) (c .den) ∙ sym (mul-assoc (a .den) (b .den) (c .den))) (own-value b (a .den * c .den))
 
   third-value : Worth c third all
   third-value = subst (λ (k : ℕ). Worth c third k) (mul-comm (c .den) (a .den * b .den)) (own-value c (a .den * b .den))
@@ -79,16 +76,12 @@ below-trans a b c p q r s t =
     let y = second a b c in
     let z = third a b c in
     by (order-values a c x z (all a b c) p r h (first-value a b c) (third-value a b c)) (below-is a c) (less-is x z)
-    ∙ T-true (ltZ x z) (lt-trans x y z
+    ∙ is-true (ltZ x z) (lt-trans x y z
     (holds (ltZ x y) (sym (by (order-values a b x y (all a b c) p q h (first-value a b c) (second-value a b c)) (below-is a b) (less-is x y)) ∙ s))
     (holds (ltZ y z) (sym (by (order-values b c y z (all a b c) q r h (second-value a b c) (third-value a b c)) (below-is b c) (less-is y z)) ∙ t)))
   where
     by : {o u : Order} {s t : Bool} → o ≡ u → isLess o ≡ s → isLess u ≡ t → s ≡ t
     by e f g = sym f ∙ ap isLess e ∙ g
-
-    T-true : (t : Bool) → T t → t ≡ true
-    T-true true e = refl
-    T-true false e = absurd e
 
 -- ---- sums and multiples keep the order
 
