@@ -1,11 +1,10 @@
 -- The arithmetic of steps: products that fit, the remainder by the sign of the shift, and the two ways of writing the nearest whole number.
 use mathlib.Core.Bool.{true, false}
 use mathlib.Core.Path.{_≡_, refl, ap}
-use Prim.Native.Nat.{ℕ, zero, suc, _+_, _-_, _*_, _/_, _%_, _^_, _≤_, _<_}
+use Prim.Native.Nat.{ℕ, zero, suc, _+_, _-_, _*_, _/_, _%_, _≤_, _<_}
 use native.Mathlib.Nat.{mod-lt, div-add-mod', div-mul-le-self, lt-div-mul-add}
 use native.Mathlib.Omega.{arith}
-use lib.IntN.{ℤ, pos, negsuc, natAbs, _+ℤ_}
-use lib.Signed.{mag}
+use lib.IntN.{pos, _+ℤ_}
 use borrow.Author.Tests.{lt-ltb, le-ltb}
 use Rattle.numbers.specs.Signs.{withSign}
 use Rattle.rounding.specs.Floats.{halfUp}
@@ -30,11 +29,6 @@ module _ (step total : ℕ) where
   turned-below (suc size) h =
       let e : suc size - step - 1 ≡ suc size - suc step = omega arith in
       simp (lt-ltb step (suc size) h) (ap (λ (k : ℕ). total - 1 - k % total) e)
-
--- the size of an i64
-pub abs-fits : (z : ℤ) → mag z < 2 ^ 63 → natAbs z ≤ 2 ^ 63
-abs-fits (pos n) h = omega arith
-abs-fits (negsuc n) h = omega arith
 
 -- ---- the nearest whole number, halves going up, as the code works it out
 

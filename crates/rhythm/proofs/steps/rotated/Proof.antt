@@ -7,10 +7,10 @@ use mir.Syntax.{w64}
 use mir.ValLaws.{toZ-ofZ}
 use borrow.Author.Needs.{needs}
 use borrow.Author.Tests.{eq-eqb, ne-eqb}
+use lib.Signed.{natAbs-le}
 use Rattle.numbers.specs.Signs.{isNeg, withSign}
 use Rattle.numbers.proofs.Laws.{sign-abs}
 use Rattle.rhythm.specs.Values.{remainder}
-use Rattle.rhythm.proofs.Sums.{abs-fits}
 use Rattle.rhythm.proofs.steps.rotated.Tie as tie
 use Rattle.rhythm.proofs.steps.rotated.Statement.{statement}
 
@@ -27,7 +27,7 @@ turned-requires : tie.Need-turned-requires
 turned-requires c κs =
     let s = c .before .before .before in
     let same = toZ-ofZ w64 (s .args .shift) (s .fits .shift) in
-    let small : natAbs (s .args .shift) ≤ 2 ^ 63 = abs-fits (s .args .shift) (s .fits .shift .sfits) in
+    let small : natAbs (s .args .shift) ≤ 2 ^ 63 = natAbs-le (s .args .shift) (s .fits .shift .sfits) in
     let size : c .magnitude .result ≡ natAbs (s .args .shift) = c .magnitude .ensures ∙ ap natAbs same in
     (omega arith, omega arith)
 
