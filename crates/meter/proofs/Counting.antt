@@ -2,9 +2,10 @@
 use mathlib.Core.Path.{_≡_, refl, sym, ap, _∙_}
 use mathlib.Core.Bool.{Bool, true, false, not}
 use mathlib.Core.List.{List}
-use Prim.Native.Nat.{ℕ, _<_, _≤_}
+use Prim.Native.Nat.{ℕ, _≤_}
 use native.Mathlib.Omega.{arith}
 use borrow.Author.Tests.{not-true}
+use native.Mathlib.Nat.{not-suc-le-zero}
 use Rattle.numbers.proofs.Laws.{by-flag, not-both}
 use Rattle.beats.specs.declared.Beat.{Beat}
 use Rattle.beats.specs.Beats.{isBeat}
@@ -60,10 +61,7 @@ module _ (map : List MeterPoint) (default : ℕ) (pickup : Pickup) (rising : Ris
   count-least e =
       by-flag (belowBeat zeroBeat beat)
       (λ t. rw (count-searched map default pickup beat t) (searched-least (test map default pickup beat) reaches-stays (ap not (at-zero ∙ t)) e))
-      (λ t. rw (count-zero map default pickup beat t) (record { passes = ap not (at-zero ∙ t); fails = λ bar h. absurd (none bar h) }))
-    where
-      none : (bar : ℕ) → bar < 0 → ⊥
-      none bar h = omega arith
+      (λ t. rw (count-zero map default pickup beat t) (record { passes = ap not (at-zero ∙ t); fails = λ bar h. absurd (not-suc-le-zero h) }))
 
   -- 2^32 - 1, where bar 2^31 does not
   pub count-past : reaches map default pickup beat 2147483648 ≡ false → countAt map default pickup beat ≡ 4294967295

@@ -3,7 +3,7 @@ use mathlib.Core.Path.{_≡_, refl, sym, ap, _∙_}
 use mathlib.Core.Bool.{Bool, true, cond, _&&_}
 use mathlib.Core.List.{List, [], _∷_}
 use Prim.Native.Nat.{ℕ, suc, min, max, _+_, _-_, _<_, _≤_}
-use native.Mathlib.Nat.{le-refl, le-trans, le-of-lt, min-eq-left, min-eq-right}
+use native.Mathlib.Nat.{le-refl, le-trans, le-of-lt, min-eq-left, min-eq-right, max-eq-right, max-eq-left}
 use native.Mathlib.Omega.{arith}
 use lib.Dec.{leb, ltb}
 use lib.ListN.{length, getD}
@@ -107,15 +107,9 @@ module _ (map : List MeterPoint) (default : ℕ) (pickup : Pickup) where
   up-to bar n end meter at p h en em =
       by-order bar n
       (λ l.
-      (λ t. segments map default pickup (end - above l t) (above l t) end (ending-bars bar n meter at l t))
+      (λ t. let to = max-eq-right (le-of-lt l) t in segments map default pickup (end - to) to end (ending-bars bar n meter at l t))
       ∙ sym (step bar n end meter at p (omega arith) (en l) (em l)))
-      (λ l. λ t. segments map default pickup (end - below l t) (below l t) end (ending-none bar n meter at l t))
-    where
-      above : bar < n → max bar n ≡ n
-      above l = omega arith
-
-      below : n ≤ bar → max bar n ≡ bar
-      below l = omega arith
+      (λ l. λ t. let to = max-eq-left l t in segments map default pickup (end - to) to end (ending-none bar n meter at l t))
 
   last-bars : (bar end : ℕ) (meter : MeterPoint) (at : Beat) → 0 < bar → (bar < end → nextChange map bar end ≡ end) → (bar < end → meterAt map default bar ≡ meter)
       → ending bar end meter at ≡ segments map default pickup (end - bar) bar end at

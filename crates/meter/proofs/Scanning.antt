@@ -2,8 +2,8 @@
 use mathlib.Core.Path.{_≡_, refl, sym, ap, _∙_}
 use mathlib.Core.Bool.{Bool, true, false, _&&_}
 use mathlib.Core.List.{List, [], _∷_}
-use Prim.Native.Nat.{ℕ, _+_, _*_, _%_, _<_, _≤_}
-use native.Mathlib.Numerals.{add-one}
+use Prim.Native.Nat.{ℕ, _+_, _*_, _%_, _<_, _≤_, suc}
+use native.Mathlib.Numerals.{add-one, add-two, add-three}
 use native.Mathlib.Omega.{arith}
 use lib.Dec.{leb}
 use lib.ListN.{length, getD, drop, length-drop}
@@ -16,21 +16,10 @@ use Rattle.meter.specs.Starts.{ascends}
 -- three words, and the rest
 drop-three : (words : List ℕ) (i : ℕ) → i + 2 < length words → drop i words ≡ getD words i 0 ∷ getD words (i + 1) 0 ∷ getD words (i + 2) 0 ∷ drop (i + 3) words
 drop-three words i h =
-    one i (omega arith)
-    ∙ ap (λ (l : List ℕ). getD words i 0 ∷ l) (one (i + 1) (omega arith) ∙ ap (λ (l : List ℕ). getD words (i + 1) 0 ∷ l) (two ∙ one (i + 2) h))
-    ∙ ap (λ (n : ℕ). getD words i 0 ∷ getD words (i + 1) 0 ∷ getD words (i + 2) 0 ∷ drop n words) (more i)
-  where
-    one : (j : ℕ) → j < length words → drop j words ≡ getD words j 0 ∷ drop (j + 1) words
-    one j l = rw (add-one, drop-cons words j 0)
-
-    two : drop (i + 1 + 1) words ≡ drop (i + 2) words
-    two = ap (λ (n : ℕ). drop n words) (assoc i)
-      where
-        assoc : (j : ℕ) → j + 1 + 1 ≡ j + 2
-        assoc j = omega arith
-
-    more : (j : ℕ) → j + 2 + 1 ≡ j + 3
-    more j = omega arith
+    rw (add-one, add-two, add-three)
+    (drop-cons words i 0 (omega arith) ∙ ap (λ (l : List ℕ). getD words i 0 ∷ l)
+    (drop-cons words (suc i) 0 (omega arith) ∙ ap (λ (l : List ℕ). getD words (suc i) 0 ∷ l)
+    (drop-cons words (suc (suc i)) 0 (omega arith))))
 
 -- how many points words are
 pub points-length : (words : List ℕ) → length words ≡ length (pointsOf words) * 3 + length words % 3

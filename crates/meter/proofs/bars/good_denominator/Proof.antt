@@ -1,20 +1,17 @@
 -- Above 0 the remainder decides, as in the definition.
 use mathlib.Core.Path.{_≡_, sym, ap}
 use mathlib.Core.Bool.{Bool, _&&_}
-use Prim.Native.Nat.{ℕ, _%_, _<_}
-use native.Mathlib.Omega.{arith}
+use Prim.Native.Nat.{ℕ, _%_}
 use borrow.Author.Needs.{needs}
 use borrow.Author.Tests.{lt-ltb}
 use lib.Dec.{eqb}
+use native.Mathlib.Nat.{pos-of-ne-zero}
 use Rattle.meter.specs.Fits.{goodDen}
 use Rattle.meter.proofs.bars.good_denominator.Statement.{statement}
 use Rattle.meter.proofs.bars.good_denominator.Tie as tie
 
 divides-good : (den : ℕ) → ((den ≡ 0) → ⊥) → eqb (64 % den) 0 ≡ goodDen den
-divides-good den f = sym (ap (λ (t : Bool). t && eqb (64 % den) 0) (lt-ltb 0 den (above den f)))
-  where
-    above : (k : ℕ) → ((k ≡ 0) → ⊥) → 0 < k
-    above k f = omega arith
+divides-good den f = sym (ap (λ (t : Bool). t && eqb (64 % den) 0) (lt-ltb 0 den (pos-of-ne-zero f)))
 
 returns : tie.Need-returns
 returns c = sym (ap goodDen (c .if1 .taken))
