@@ -1,11 +1,12 @@
 -- Texts put one behind another are one text put; and the digits of a number, from the last on.
 use mathlib.Core.Path.{_≡_, refl, sym, ap, _∙_}
 use mathlib.Core.List.{List, [], _∷_, _++_, append-assoc}
-use Prim.Native.Nat.{ℕ, zero, suc, _+_, _-_, _/_, _%_, _≤_, _<_}
+use Prim.Native.Nat.{ℕ, zero, suc, _+_, _/_, _%_, _≤_, _<_}
 use native.Mathlib.Omega.{arith}
 use native.Mathlib.Numerals.{add-one}
 use lib.ListN.{length, take, drop, set, getD, length-append, length-drop, take-append-drop}
 use lib.Seq.{take-at, drop-at, length-take-le, drop-drop, set-split, take-suc, take-length}
+use native.Mathlib.Nat.{add-zero}
 use Rattle.text.specs.Texts.{put, Puts, digitsBy, decimal}
 
 -- the length stays
@@ -30,10 +31,8 @@ one out at b h = record {
 }
 
 -- nothing
-pub nothing : (out : List ℕ) (at : ℕ) → Puts at [] out (at + 0) out
-nothing out at =
-    let e : at + 0 ≡ at = omega arith in
-    record { next-is = refl; after-is = sym (ap (λ (k : ℕ). take at out ++ drop k out) e ∙ take-append-drop at out) }
+pub nothing : (out : List ℕ) (at : ℕ) → Puts at [] out at out
+nothing out at = record { next-is = sym (add-zero at); after-is = sym (ap (λ (k : ℕ). take at out ++ drop k out) (add-zero at) ∙ take-append-drop at out) }
 
 -- t behind s
 pub behind : {at p r : ℕ} {s t out mid after : List ℕ} → at ≤ length out

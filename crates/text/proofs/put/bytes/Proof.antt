@@ -4,6 +4,7 @@ use Prim.Native.Nat.{_+_, _-_, _≤_}
 use native.Mathlib.Omega.{arith}
 use borrow.Author.Needs.{needs}
 use lib.ListN.{length, take, length-set}
+use native.Mathlib.Nat.{add-zero}
 use Rattle.text.specs.Texts.{Puts}
 use Rattle.text.proofs.Puts.{nothing, more-bytes, all-bytes}
 use Rattle.text.proofs.put.bytes.Statement.{statement}
@@ -16,7 +17,7 @@ abbrev μ-loop : tie.MeasureT-loop
 μ-loop out₀ place text i₀ out i = length text - i
 
 loop-holds : tie.Need-loop-holds Inv-loop μ-loop
-loop-holds c = (omega arith, refl, nothing _ _)
+loop-holds c = (omega arith, refl, rw add-zero (nothing _ _))
 
 shared-slice-read-out : tie.Need-shared-slice-read-out Inv-loop μ-loop
 shared-slice-read-out c = search needs
