@@ -12,7 +12,7 @@ use lib.Ieee.Positive.{positive}
 use lib.Ieee.Scale.{finite}
 use Rattle.numbers.proofs.Laws.{holds}
 use Rattle.rounding.specs.Floats.{float0, float1, withoutSign}
-use Rattle.rounding.proofs.Laws.{max-positive}
+use Rattle.rounding.proofs.Laws.{max-positive, le-trans-float}
 use Rattle.beats.specs.Frames.{float60, secondsAt}
 use Rattle.tempo.specs.Tempos.{TempoPoint, tempoOf, elapsed, walk, wholeWalk, secondsAtBeat}
 use Rattle.tempo.specs.Rising.{Follows, RisingFrom, RisingMap}
@@ -35,14 +35,8 @@ module _ (x y : Float) (p : FromZero x) (q : FromZero y) where
   le→plain : T (le x y) → Up (withoutSign x) (withoutSign y)
   le→plain h = le→up (withoutSign x) (withoutSign y) (plain-own x p) (plain-own y q) (subst T (sym (le-plain x y p q)) h)
 
-  plain→le : Up (withoutSign x) (withoutSign y) → T (le x y)
-  plain→le h = subst T (le-plain x y p q) (up→le (withoutSign x) (withoutSign y) h)
-
   turned : le x y ≡ false → T (le y x)
   turned h = subst T (le-plain y x q p) (up→le (withoutSign y) (withoutSign x) (nle→up (withoutSign x) (withoutSign y) (plain-own x p) (plain-own y q) (le-plain x y p q ∙ h)))
-
-le-through : (x y z : Float) → FromZero x → FromZero y → FromZero z → T (le x y) → T (le y z) → T (le x z)
-le-through x y z p q r h k = plain→le x z p r (up-trans (withoutSign x) (withoutSign y) (withoutSign z) (le→plain x y p q h) (le→plain y z q r k))
 
 -- ---- one stretch
 
@@ -101,7 +95,7 @@ module _ (secs from tempo : Float) (s : Stands secs from tempo) where
       let a = withoutSign from in
       let b = withoutSign to in
       let c = withoutSign further in
-      rw (elapsed-plain secs from to tempo s p h, elapsed-plain secs from further tempo s q (le-through from to further (s .beat) p q h k))
+      rw (elapsed-plain secs from to tempo s p h, elapsed-plain secs from further tempo s q (le-trans-float from to further h k))
       (add-up binary64 secs secs (secondsAt (sub binary64 b a) tempo) (secondsAt (sub binary64 c a) tempo) (s .sign)
       (seconds-up (sub binary64 b a) (sub binary64 c a) tempo (s .speed) (sub-up binary64 b a c (plain-finite further q) (le→plain from to (s .beat) p h) (le→plain to further p q k))))
 
@@ -174,7 +168,7 @@ walk-up (point ∷ rest) secs from tempo beat further s r p q h k =
         up-trans (elapsed secs from beat tempo) there (walkTo further rest there (point .at) (point .tempo))
         (elapsed-up secs from tempo s beat (point .at) p at h (holds (le beat (point .at)) e))
         (walk-more rest there (point .at) (point .tempo) further (passed secs from tempo s point (r .0)) (r .1) q (turned further (point .at) q at f))
-    go false true next e f = absurd (subst T e (le-through beat further (point .at) p q at k (holds (le further (point .at)) f)))
+    go false true next e f = absurd (subst T e (le-trans-float beat further (point .at) k (holds (le further (point .at)) f)))
     go false false next e f = next (turned beat (point .at) p at e)
 
 -- ---- the law

@@ -1,21 +1,21 @@
 -- A beat that is a zero with a sign is worked out as zero: its difference from a zero is a zero, and adding a zero of either sign is adding nothing.
 use mathlib.Core.Path.{_≡_, refl, sym, _∙_}
-use mathlib.Core.Bool.{Bool, true, false, not, _&&_, _||_, cond, Bool·beq}
-use Prim.Native.Nat.{ℕ, suc, _+_, _-_, _*_, _^_, _≤_, _<_}
-use native.Mathlib.Nat.{le-refl, mul-pos, zero-mul, zero-add, mul-comm, mul-assoc, mul-left-comm}
+use mathlib.Core.Bool.{Bool, true, false, not, _&&_, _||_, cond, Bool·beq, and-true, and-self}
+use Prim.Native.Nat.{ℕ, suc, _+_, _-_, _*_, _^_, _≤_, _<_, zero-le}
+use native.Mathlib.Nat.{mul-pos, zero-mul, zero-add, mul-comm, mul-assoc, mul-left-comm}
 use native.Mathlib.Omega.{arith}
-use lib.IntN.{ℤ, pos}
+use lib.IntN.{ℤ}
 use lib.Dec.{T, ltb, eqb, eqb→eq, ltb→lt}
 use lib.Pow.{pow-pos}
 use borrow.Author.Tests.{le-ltb}
 use lib.Ieee.{Float, nan, inf, fin, Format, prec, low, emax, unlike, up, down, le, lt, eq, round, neg, sum, add, sub, mul, div}
-use lib.Ieee.Fits.{up-pos, down-pos, and-l, and-r}
+use lib.Ieee.Fits.{up-pos, down-pos, and-l}
 use lib.Ieee.Exact.{HasValue, round-exact}
 use lib.Ieee.Positive.{positive}
 use lib.Ieee.Scale.{finite, round-same}
 use Rattle.numbers.proofs.Laws.{factor-zero}
 use Rattle.rounding.specs.Floats.{float0, withoutSign}
-use Rattle.rounding.proofs.Laws.{Up, up→le, not-zero, from-zero}
+use Rattle.rounding.proofs.Laws.{Up, not-zero, le-trans-float}
 
 -- a zero, of either sign
 abbrev pub Zero : Float → Type 0
@@ -125,11 +125,7 @@ zero-below m e n d h is =
 
 -- the order does not look at that sign
 at-zero : (a : ℕ) → (ltb a 0 || (eqb a 0 && true)) ≡ (eqb a 0 && eqb a 0)
-at-zero a = rw (le-ltb a 0 (omega arith)) (go (eqb a 0))
-  where
-    go : (b : Bool) → (b && true) ≡ (b && b)
-    go true = refl
-    go false = refl
+at-zero a = rw (le-ltb a 0 zero-le) (and-true (eqb a 0) ∙ sym (and-self (eqb a 0)))
 
 pub le-plain : (x y : Float) → FromZero x → FromZero y → le (withoutSign x) (withoutSign y) ≡ le x y
 unfolding le lt eq withoutSign
@@ -143,30 +139,5 @@ le-plain (fin true m e) (fin false n d) p q = rw (times-zero m (up e) (down d) (
 le-plain (fin true m e) (fin true n d) p q = rw (times-zero m (up e) (down d) (signed-zero m e (p .reached)), times-zero n (up d) (down e) (signed-zero n d (q .reached)))
 
 -- what is not below a beat from 0 on is from 0 on
-below-zero : (a b : ℕ) → a ≡ 0 → T (ltb b a || (eqb a b && true)) → b ≡ 0
-below-zero a b is h = go (ltb b a) (eqb a b) (ltb→lt b a) (eqb→eq a b) h
-  where
-    go : (x y : Bool) → (T x → b < a) → (T y → a ≡ b) → T (x || (y && true)) → b ≡ 0
-    go true y p q t = let l : b < a = p tt in omega arith
-    go false true p q t = sym (q tt) ∙ is
-    go false false p q t = absurd t
-
-reach-zero : (n : ℕ) (d : ℤ) → n ≡ 0 → T (le float0 (fin true n d))
-unfolding le lt eq
-reach-zero n d is = rw (is, zero-mul (down d), zero-mul (up d)) tt
-
 pub from-zero-on : (x y : Float) → FromZero x → T (finite y) → T (le x y) → FromZero y
-unfolding le lt eq
-from-zero-on nan y p q h = absurd (p .number)
-from-zero-on (inf s) y p q h = absurd (p .number)
-from-zero-on (fin s m e) nan p q h = absurd q
-from-zero-on (fin s m e) (inf t) p q h = absurd q
-from-zero-on (fin s m e) (fin false n d) p q h = record { number = tt; reached = up→le float0 (fin false n d) (from-zero (pos 0) (fin false n d) (le-refl (n * up d * down d))) }
-from-zero-on (fin false m e) (fin true n d) p q h =
-    let a = m * up e * down d in
-    let b = n * up d * down e in
-    let level : b ≡ 0 = sym (eqb→eq a b (and-l (eqb a b) (eqb a 0) h)) ∙ eqb→eq a 0 (and-r (eqb a b) (eqb a 0) h) in
-    record { number = tt; reached = reach-zero n d (factor-zero n (up d) (up-pos d) (factor-zero (n * up d) (down e) (down-pos e) level)) }
-from-zero-on (fin true m e) (fin true n d) p q h =
-    let level : n * up d * down e ≡ 0 = below-zero (m * up e * down d) (n * up d * down e) (times-zero m (up e) (down d) (signed-zero m e (p .reached))) h in
-    record { number = tt; reached = reach-zero n d (factor-zero n (up d) (up-pos d) (factor-zero (n * up d) (down e) (down-pos e) level)) }
+from-zero-on x y p q h = record { number = q; reached = le-trans-float float0 x y (p .reached) h }
