@@ -1,7 +1,7 @@
 -- An odd number has no factor in common with a power of two: what divides 16 and an odd multiple of a number divides the number.
 use mathlib.Core.Path.{_≡_, sym, _∙_, subst}
 use Prim.Native.Nat.{ℕ, zero, suc, _+_, _-_, _*_, _<_, _≤_, _∣_}
-use native.Mathlib.Nat.{one-mul, mul-pos, mul-le-mul-left, le-of-mul-le-mul-right, le-of-dvd, dvd-mul-left, dvd-mul-left-of-dvd, dvd-mul-right-of-dvd, dvd-sub}
+use native.Mathlib.Nat.{one-mul, mul-pos, mul-le-mul-left, le-of-mul-le-mul-right, le-of-dvd, dvd-mul-left, dvd-mul-left-of-dvd, dvd-mul-right-of-dvd, dvd-sub, mul-assoc}
 use native.Mathlib.Omega.{arith}
 use Rattle.numbers.specs.Divisor.{gcdOf}
 use Rattle.numbers.proofs.Laws.{euclid}
@@ -21,13 +21,10 @@ module _ (n d u m q : ℕ) (hd : 0 < d) (hm : 0 < m) (lowest : gcdOf n d ≡ 1) 
   pub odd-den : d ≤ m
   odd-den =
       le-of-dvd hm (odd-divides d q m p
-      (euclid d n ((2 * q + 1) * m) (mul-pos (above q) hm) lowest (subst (λ (x : ℕ). d ∣ x) (e ∙ grouped n (2 * q + 1) m) (dvd-mul-left d u))))
+      (euclid d n ((2 * q + 1) * m) (mul-pos (above q) hm) lowest (subst (λ (x : ℕ). d ∣ x) (e ∙ mul-assoc n (2 * q + 1) m) (dvd-mul-left d u))))
     where
       above : (q : ℕ) → 0 < 2 * q + 1
       above q = omega arith
-
-      grouped : (i j k : ℕ) → i * j * k ≡ i * (j * k)
-      grouped i j k = omega arith
 
   pub odd-num : n * (2 * q + 1) ≤ u
   odd-num = le-of-mul-le-mul-right (subst (λ (x : ℕ). n * (2 * q + 1) * d ≤ x) (sym e) (mul-le-mul-left (n * (2 * q + 1)) odd-den)) hd

@@ -1,12 +1,13 @@
 -- A map is sound where each point that a scan of its words meets is: after i words, the points that are left give the same answer.
-use mathlib.Core.Path.{_≡_, refl, sym, ap, _∙_}
-use mathlib.Core.Bool.{Bool, true, false, _&&_}
+use mathlib.Core.Path.{_≡_, sym, ap, _∙_}
+use mathlib.Core.Bool.{Bool, true, false, _&&_, and-assoc}
 use Prim.Native.Nat.{ℕ, suc, _+_, _/_, _<_, _≤_}
 use mathlib.Core.List.{List}
 use native.Mathlib.Omega.{arith}
 use lib.Dec.{leb, ltb, eqb}
 use lib.ListN.{length, getD}
 use borrow.Author.Tests.{lt-ltb, le-ltb, le-leb, lt-leb}
+use native.Mathlib.Numerals.{add-one}
 use Rattle.meter.specs.declared.MeterPoint.{MeterPoint}
 use Rattle.meter.specs.Meters.{pointsOf}
 use Rattle.meter.specs.Fits.{goodDen, firstZero, soundFrom, soundMap}
@@ -26,11 +27,6 @@ module _ (low bar numerator denominator : ℕ) where
 
 -- ---- the scan
 
-regroup : (a b c d : Bool) → a && (b && (c && d)) ≡ (a && (b && c)) && d
-regroup true true c d = refl
-regroup true false c d = refl
-regroup false b c d = refl
-
 module _ (words : List ℕ) (i low : ℕ) where
   pub sound-end : length words ≤ i + 2 → true ≡ soundFrom low (left words i)
   unfolding soundFrom
@@ -45,18 +41,15 @@ module _ (words : List ℕ) (i low : ℕ) where
     unfolding soundFrom
     sound-step =
         ap (soundFrom low) (points-step words i h)
-        ∙ regroup (leb low (getD words i 0)) (ltb 0 (getD words (i + 1) 0)) (goodDen (getD words (i + 2) 0)) (soundFrom (suc (getD words i 0)) (left words (i + 3)))
+        ∙ simp and-assoc
 
     pub sound-not : here ≡ false → false ≡ soundFrom low (left words i)
     sound-not e = sym (sound-step ∙ ap (λ (t : Bool). t && soundFrom (suc (getD words i 0)) (left words (i + 3))) e)
 
     pub sound-again : here ≡ true → soundFrom (getD words i 0 + 1) (left words (i + 3)) ≡ soundFrom low (left words i)
     sound-again e =
-        ap (λ (k : ℕ). soundFrom k (left words (i + 3))) (more (getD words i 0))
+        ap (λ (k : ℕ). soundFrom k (left words (i + 3))) (add-one (getD words i 0))
         ∙ sym (sound-step ∙ ap (λ (t : Bool). t && soundFrom (suc (getD words i 0)) (left words (i + 3))) e)
-      where
-        more : (k : ℕ) → k + 1 ≡ suc k
-        more k = omega arith
 
 -- ---- the map
 
