@@ -1,11 +1,12 @@
 -- A meter map has no problems exactly where it is sound: whether a list of records is empty is a test, and it is the test of soundness, part by part.
 use mathlib.Core.Path.{_≡_, refl, sym, ap, _∙_}
-use mathlib.Core.Bool.{Bool, true, false, not, _&&_}
+use mathlib.Core.Bool.{Bool, true, false, not, _&&_, Bool·not-not}
 use mathlib.Core.List.{List, [], _∷_, _++_}
 use Prim.Native.Nat.{ℕ, zero, suc}
 use native.Mathlib.Omega.{arith}
-use borrow.Author.Tests.{ltb-true, ltb-false, lt-ltb, le-leb, lt-leb}
+use borrow.Author.Tests.{lt-ltb, le-leb, lt-leb, le-ltb}
 use lib.Dec.{ltb, leb, eqb, eqb·suc-zero}
+use Rattle.numbers.proofs.Laws.{by-order}
 use Rattle.meter.specs.declared.MeterPoint.{MeterPoint}
 use Rattle.meter.specs.Fits.{goodDen, soundFrom, firstZero, soundMap}
 use Rattle.problems.specs.Problems.{Problem, problemIf, meterPoint, meterPoints, firstBar, meterProblems}
@@ -35,15 +36,7 @@ above zero = refl
 above (suc n) = rw (eqb·suc-zero n, lt-ltb 0 (suc n) (omega arith))
 
 not-below : (a b : ℕ) → not (ltb a b) ≡ leb b a
-not-below a b = by-test (ltb a b) refl
-  where
-    by-test : (less : Bool) → ltb a b ≡ less → not less ≡ leb b a
-    by-test true e = sym (lt-leb b a (ltb-true a b e))
-    by-test false e = sym (le-leb b a (ltb-false a b e))
-
-twice : (t : Bool) → not (not t) ≡ t
-twice true = refl
-twice false = refl
+not-below a b = by-order a b (λ h. rw (lt-ltb a b h, lt-leb b a h)) (λ h. rw (le-ltb a b h, le-leb b a h))
 
 -- the definitions test in different orders
 turned : (low numerator denominator rest : Bool) → ((numerator && (denominator && low)) && rest) ≡ (low && (numerator && (denominator && rest)))
@@ -58,7 +51,7 @@ turned false false denominator rest = refl
 
 point-sound : (index low : ℕ) (point : MeterPoint) → none (meterPoint index low point) ≡ (ltb 0 (point .numerator) && (goodDen (point .denominator) && leb low (point .bar)))
 unfolding meterPoint
-point-sound index low point = simp (none-both, none-when, above, twice, not-below)
+point-sound index low point = simp (none-both, none-when, above, Bool·not-not, not-below)
 
 points-sound : (index low : ℕ) (map : List MeterPoint) → none (meterPoints index low map) ≡ soundFrom low map
 unfolding meterPoints soundFrom
@@ -71,7 +64,7 @@ points-sound index low (point ∷ rest) =
 
 first-sound : (map : List MeterPoint) → none (firstBar map) ≡ firstZero map
 first-sound [] = refl
-first-sound (point ∷ rest) = none-when (not (eqb (point .bar) 0)) 2 0 0 ∙ twice (eqb (point .bar) 0)
+first-sound (point ∷ rest) = none-when (not (eqb (point .bar) 0)) 2 0 0 ∙ Bool·not-not (eqb (point .bar) 0)
 
 map-sound : (map : List MeterPoint) → none (meterProblems map) ≡ soundMap map
 unfolding meterProblems soundMap

@@ -1,7 +1,7 @@
 -- The walk over meter points: its state is that of a pass that has come to a point, the first pass or, behind it, the second; each step keeps this, and at the end it is the answer of the call.
 use mathlib.Core.Path.{_≡_, refl, sym, ap, _∙_, subst}
 use mathlib.Core.Bool.{Bool, true, false, not, cond, _&&_}
-use mathlib.Core.List.{List, [], _∷_, _++_}
+use mathlib.Core.List.{List, [], _++_}
 use mathlib.Core.Logic.{_⊎_, inl, inr, ⊎-elim}
 use Prim.Native.Nat.{ℕ, _+_, _-_, _/_, _≤_, _<_}
 use native.Mathlib.Numerals.{add-one}
@@ -62,14 +62,10 @@ module _ (points : List MeterPoint) (out : List ℕ) where
   pub begins : Stage (begun (length points) (length out)) out
   begins = record { n-is = refl; room-is = refl; long = refl; how = by-length (leb (length points) 65536) refl }
     where
-      nothing : (l : List MeterPoint) → length l ≤ 0 → l ≡ []
-      nothing [] h = refl
-      nothing (p ∷ l) h = absurd (omega arith)
-
       by-length : (small : Bool) → leb (length points) 65536 ≡ small
           → (length points ≤ cond small 0 (length points) × Refused (record { n = length points; room = length out / 3; at = cond small 0 (length points); writing = false; low = 0; count = 0 }) out)
           ⊎ Under (record { n = length points; room = length out / 3; at = cond small 0 (length points); writing = false; low = 0; count = 0 }) out
-      by-length true e = inr (record { short = leb-true (length points) 65536 e; passing = begin all-left; fits = never; stopped = λ w h. inl (nothing points h) })
+      by-length true e = inr (record { short = leb-true (length points) 65536 e; passing = begin all-left; fits = never; stopped = λ w h. inl (drop-of-length-le points h) })
       by-length false e = inl (omega arith, record { over = leb-false (length points) 65536 e; still = refl })
 
   -- ---- one point

@@ -8,6 +8,7 @@ use lib.Dec.{ltb, eqb}
 use lib.IntN.{pos}
 use lib.Ieee.{binary32, ofBits}
 use lib.ListN.{length, length-append}
+use native.Mathlib.Nat.{suc-ne-zero}
 use Rattle.beats.specs.declared.Beat.{Beat}
 use Rattle.beats.specs.Beats.{wholeBeat}
 use Rattle.beats.specs.Sums.{belowBeat}
@@ -17,16 +18,13 @@ use Rattle.problems.specs.Problems.{Problem, Listed, problemIf, meterPoi
 use Rattle.problems.specs.Passes.{tempoStart, tempoFirst, tempoLater, tempoAt, tempoFrom, meterHead, meterAt, meterFrom}
 use Rattle.problems.proofs.Points.{head-later, tempo-later}
 
-above : (index : ℕ) → suc index ≡ 0 → ⊥
-above index e = omega arith
-
 -- ---- a tempo map
 
 tempo-after : (n index : ℕ) (before : Beat) (points : List Listed) → tempoFrom n (suc index) before points ≡ tempoPointsAfter (suc index) before points
 unfolding tempoFrom tempoLater tempoPointsAfter
 tempo-after n index before [] = refl
 tempo-after n index before (point ∷ rest) =
-    ap (λ (l : List Problem). l ++ tempoFrom n (suc (suc index)) (point .at) rest) (tempo-later n (suc index) before point (above index))
+    ap (λ (l : List Problem). l ++ tempoFrom n (suc (suc index)) (point .at) rest) (tempo-later n (suc index) before point (suc-ne-zero index))
     ∙ append-assoc (tempoBits (suc index) point) (problemIf (not (belowBeat before (point .at))) 9 (suc index) 0) (tempoFrom n (suc (suc index)) (point .at) rest)
     ∙ ap (λ (l : List Problem). tempoBits (suc index) point ++ (problemIf (not (belowBeat before (point .at))) 9 (suc index) 0 ++ l)) (tempo-after n (suc index) (point .at) rest)
 
@@ -41,7 +39,7 @@ meter-after : (n index low : ℕ) (points : List MeterPoint) → meterFrom n (su
 unfolding meterFrom meterAt meterPoints
 meter-after n index low [] = refl
 meter-after n index low (point ∷ rest) =
-    ap (λ (l : List Problem). (l ++ meterPoint (suc index) low point) ++ meterFrom n (suc (suc index)) (suc (point .bar)) rest) (head-later n (suc index) (point .bar) (above index))
+    ap (λ (l : List Problem). (l ++ meterPoint (suc index) low point) ++ meterFrom n (suc (suc index)) (suc (point .bar)) rest) (head-later n (suc index) (point .bar) (suc-ne-zero index))
     ∙ ap (λ (l : List Problem). meterPoint (suc index) low point ++ l) (meter-after n (suc index) (suc (point .bar)) rest)
 
 pub meter-whole : (points : List MeterPoint) → meterFrom (length points) 0 0 points ≡ meterProblems points

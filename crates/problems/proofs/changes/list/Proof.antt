@@ -9,21 +9,19 @@ use lib.ListN.{length}
 use borrow.Author.Needs.{needs}
 use Rattle.numbers.specs.Answers.{accepted}
 use Rattle.numbers.proofs.Laws.{never}
-use Rattle.problems.specs.Problems.{listed, tempoProblems}
+use Rattle.problems.specs.Problems.{Problem, listed, tempoProblems}
 use Rattle.problems.specs.Passes.{put}
 use Rattle.problems.proofs.Calls.{ready, too-many, enough, few}
 use Rattle.problems.proofs.Passing.{counts}
 use Rattle.problems.proofs.changes.list.Statement.{statement}
 use Rattle.problems.proofs.changes.list.Tie as tie
 
+-- the problems that are asked for
+abbrev found : tie.Start → List Problem
+found s = tempoProblems (listed (s .args .nums .now) (s .args .dens .now) (s .args .tempos .now))
+
 pass-requires : tie.Need-pass-requires
-pass-requires c κs =
-    let a = c .before .before .before .before .args in
-    let nums = a .nums .now in
-    let dens = a .dens .now in
-    let tempos = a .tempos .now in
-    let h = c .before .before .before .before .pre in
-    (h, ready false (a .out .now) (tempoProblems (listed nums dens tempos)) (few nums dens tempos h) never)
+pass-requires c κs = let s = c .before .before .before .before in (s .pre, ready false (s .args .out .now) (found s) (few _ _ _ (s .pre)) never)
 
 cast-if1 : tie.Need-cast-if1
 cast-if1 c = search needs
@@ -33,14 +31,9 @@ same-length c = search needs
 
 returns : tie.Need-returns
 returns c =
-    let a = c .before .before .before .before .before .before .before .before .args in
-    let nums = a .nums .now in
-    let dens = a .dens .now in
-    let tempos = a .tempos .now in
-    let out = a .out .now in
-    let problems = tempoProblems (listed nums dens tempos) in
+    let s = c .before .before .before .before .before .before .before .before in
     let said = counts (c .before .before .before .pass .ensures) in
-    let many = too-many problems out (omega (arith, c .if1 .taken, said .0, ap length (said .1))) in
+    let many = too-many (found s) (s .args .out .now) (omega (arith, c .if1 .taken, said .0, ap length (said .1))) in
     (many .0, said .1 ∙ many .1)
 
 pass-requires-2 : tie.Need-pass-requires-2
@@ -51,16 +44,11 @@ same-length-2 c = search needs
 
 returns-2 : tie.Need-returns-2
 returns-2 c =
-    let a = c .before .before .before .before .before .before .before .before .before .before .before .before .args in
-    let nums = a .nums .now in
-    let dens = a .dens .now in
-    let tempos = a .tempos .now in
-    let out = a .out .now in
-    let problems = tempoProblems (listed nums dens tempos) in
+    let s = c .before .before .before .before .before .before .before .before .before .before .before .before in
     let said = counts (c .before .before .before .before .before .before .before .pass .ensures) in
-    let fit = enough problems out (omega (arith, c .before .before .before .before .if1 .left, said .0, ap length (said .1))) in
+    let fit = enough (found s) (s .args .out .now) (omega (arith, c .before .before .before .before .if1 .left, said .0, ap length (said .1))) in
     let wrote = c .before .before .pass2 .ensures in
-    (ap accepted (wrote .counted ∙ zero-add (length problems)) ∙ fit .0, wrote .words ∙ ap (λ (l : List ℕ). put true l 0 problems) (said .1) ∙ fit .1)
+    (ap accepted (wrote .counted ∙ zero-add (length (found s))) ∙ fit .0, wrote .words ∙ ap (λ (l : List ℕ). put true l 0 (found s)) (said .1) ∙ fit .1)
 
 pub list-spec : {M : Type 1} → statement M
 list-spec = tie.close (tie.spec pass-requires cast-if1 same-length returns pass-requires-2 same-length-2 returns-2)
