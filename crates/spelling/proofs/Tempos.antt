@@ -2,12 +2,13 @@
 use mathlib.Core.Path.{_≡_, refl, sym, ap, _∙_}
 use mathlib.Core.Bool.{Bool, true, false, cond, _&&_}
 use mathlib.Core.List.{List, [], _∷_, _++_}
-use Prim.Native.Nat.{ℕ, suc, _+_, _≤_, _<_}
+use Prim.Native.Nat.{ℕ, suc, _≤_, _<_}
 use native.Mathlib.Omega.{arith}
-use borrow.Author.Tests.{lt-ltb, le-ltb, lt-leb, le-leb, eq-eqb, ne-eqb, eqb-true, ltb-true, ltb-false}
+use borrow.Author.Tests.{lt-ltb, le-ltb, lt-leb, le-leb, eq-eqb, ne-eqb, eqb-true}
 use lib.Dec.{ltb, leb, eqb}
 use lib.ListN.{length, take, drop, getD}
 use lib.Seq.{take-all}
+use Rattle.numbers.proofs.Laws.{by-order, and-left}
 use Rattle.spelling.specs.declared.digits.Digits.{Digits}
 use Rattle.spelling.specs.declared.digits.Digits.the-variants.{Number, NotDigits}
 use Rattle.spelling.specs.declared.TempoWord.{TempoWord}
@@ -36,11 +37,7 @@ module _ (word : List ℕ) where
 
   pub ten-bytes : isBits word ≡ true → length word ≡ 10
   unfolding isBits
-  ten-bytes e = go (eqb (length word) 10) refl e
-    where
-      go : (t : Bool) → eqb (length word) 10 ≡ t → (t && (eqb (getD word 0 0) 48 && eqb (getD word 1 0) 120)) ≡ true → length word ≡ 10
-      go true q h = eqb-true (length word) 10 q
-      go false q h = let z : _≡_ {A = ℕ} 0 1 = cc in omega arith
+  ten-bytes e = eqb-true (length word) 10 (and-left (eqb (length word) 10) (eqb (getD word 0 0) 48 && eqb (getD word 1 0) 120) e)
 
   pub by-bits : isBits word ≡ true → bitsTempo (drop 2 word) ≡ tempoOf word
   unfolding tempoOf
@@ -117,8 +114,5 @@ module _ (word : List ℕ) where
     -- where the bytes before the point are no digits
     pub no-front : NotDigits ≡ someDigits 16777215 (take point word) → NotTempo ≡ decimalTempo word
     unfolding pointed
-    no-front e = go (ltb point (length word)) refl
-      where
-        go : (t : Bool) → ltb point (length word) ≡ t → NotTempo ≡ decimalTempo word
-        go true q = ap (λ (read : Digits). pointed read (drop (suc point) word)) e ∙ with-point (ltb-true point (length word) q)
-        go false q = ap (tempoBy 0) e ∙ without-point (ltb-false point (length word) q)
+    no-front e =
+        by-order point (length word) (λ h. ap (λ (read : Digits). pointed read (drop (suc point) word)) e ∙ with-point h) (λ h. ap (tempoBy 0) e ∙ without-point h)

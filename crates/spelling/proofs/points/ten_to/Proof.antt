@@ -4,6 +4,7 @@ use Prim.Native.Nat.{ℕ, _+_, _^_, _≤_}
 use native.Mathlib.Omega.{arith}
 use lib.Ieee.{Float, binary32, ofInt, ofBits, ofFields, odd, round}
 use lib.IntN.{pos}
+use native.Mathlib.Nat.{le-antisymm}
 use Rattle.spelling.proofs.points.ten_to.Statement.{statement}
 use Rattle.spelling.proofs.points.ten_to.Tie as tie
 
@@ -13,9 +14,6 @@ power places = ofInt binary32 (pos (10 ^ places))
 -- a number from k on that is not k
 above : (k n : ℕ) → k ≤ n → (n ≡ k → ⊥) → k + 1 ≤ n
 above k n h e = omega arith
-
-ten : (n : ℕ) → 10 ≤ n → n ≤ 10 → 10 ≡ n
-ten n h k = omega arith
 
 returns : tie.Need-returns
 unfolding power ofBits ofFields odd ofInt round
@@ -73,7 +71,7 @@ returns-11 c =
     let from8 = above 7 n from7 (no .0 .0 .1) in
     let from9 = above 8 n from8 (no .0 .1) in
     let from10 = above 9 n from9 (no .1) in
-    ap power (ten n from10 (c .before .pre))
+    ap power (le-antisymm from10 (c .before .pre))
 
 pub ten-to-spec : {M : Type 1} → statement M
 ten-to-spec =
