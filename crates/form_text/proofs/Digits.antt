@@ -1,15 +1,15 @@
 -- Which decimal reads back, one number of places after the other; and digits, from the last on.
 use mathlib.Core.Path.{_≡_, refl, sym, ap, _∙_}
-use mathlib.Core.Bool.{Bool, true, false, cond, _&&_}
+use mathlib.Core.Bool.{Bool, true, false, cond}
 use mathlib.Core.List.{List, [], _∷_, _++_, append-nil, append-assoc}
 use Prim.Native.Nat.{ℕ, zero, suc, _+_, _-_, _/_, _%_, _^_, _≤_, _<_}
-use native.Mathlib.Nat.{div-le-self}
 use native.Mathlib.Omega.{arith}
 use borrow.Author.Tests.{lt-ltb, le-ltb, ltb-true, eq-eqb, ne-eqb}
 use lib.Dec.{ltb, eqb}
 use lib.IntN.{pos}
 use lib.Ieee.{Float, binary32, binary64, ofBits, toBits, div, mul, ofInt, toUnsigned}
 use lib.ListN.{length, length-append}
+use Rattle.numbers.proofs.Laws.{and-left}
 use Rattle.rounding.specs.Floats.{roundAway}
 use Rattle.text.specs.Texts.{Puts, decimal}
 use Rattle.text.proofs.Laws.{nothing, retext}
@@ -44,11 +44,8 @@ module _ (bits places : ℕ) {digits : ℕ} (e : digits ≡ digitsFor bits place
 
 back-small : (bits places : ℕ) → readsBack bits places ≡ true → digitsFor bits places < 16777216
 unfolding readsBack
-back-small bits places e = go (ltb (digitsFor bits places) 16777216) refl e
-  where
-    go : (t : Bool) → ltb (digitsFor bits places) 16777216 ≡ t → (t && eqb (bitsOfDecimal (digitsFor bits places) places) bits) ≡ true → digitsFor bits places < 16777216
-    go true p h = ltb-true (digitsFor bits places) 16777216 p
-    go false p h = let z : _≡_ {A = ℕ} 0 1 = cc in absurd (omega arith)
+back-small bits places e =
+    ltb-true (digitsFor bits places) 16777216 (and-left (ltb (digitsFor bits places) 16777216) (eqb (bitsOfDecimal (digitsFor bits places) places) bits) e)
 
 module _ (bits : ℕ) where
   pub place-found : (p left : ℕ) → 0 < left → readsBack bits p ≡ true → placesFrom bits p left ≡ p
@@ -86,9 +83,7 @@ module _ (bits : ℕ) where
 module _ (base n : ℕ) where
   pub no-digits : (count : ℕ) (out : List ℕ) (at : ℕ) → count ≡ 0 → Puts at (lastDigits base count n) out at out
   unfolding lastDigits
-  no-digits count out at e =
-      let z : at + 0 ≡ at = omega arith in
-      retext (ap (λ (k : ℕ). lastDigits base k n) (sym e)) (rw z at (nothing out at))
+  no-digits count out at e = retext (ap (λ (k : ℕ). lastDigits base k n) (sym e)) (nothing out at)
 
   pub more-digits : (count : ℕ) → 0 < count → lastDigits base (count - 1) (n / base) ++ (digitByte (n % base) ∷ []) ≡ lastDigits base count n
   unfolding lastDigits
@@ -121,7 +116,3 @@ module _ (bits : ℕ) {places : ℕ} (e : places ≡ placesFrom bits 0 5) where
   pub tempo-bits : 5 ≤ places → (48 ∷ 120 ∷ []) ++ lastDigits 16 8 bits ≡ tempoText bits
   unfolding tempoText bitsText
   tempo-bits h = simp (le-ltb (placesFrom bits 0 5) 5 (omega arith))
-
--- a quotient is no more than what was divided
-pub shorter : (n k : ℕ) → n / k ≤ n
-shorter = div-le-self

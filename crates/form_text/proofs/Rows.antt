@@ -17,9 +17,6 @@ use Rattle.form_text.specs.Forms.{rateWord, beatsWord, tempoWord, pickup
 
 -- ---- lines
 
-none : (out : List ℕ) (at : ℕ) → Puts at [] out at out
-none out at = let e : at + 0 ≡ at = omega arith in rw e at (nothing out at)
-
 pub number-put : (word : List ℕ) (number : ℕ) {at p q r : ℕ} {o₀ o₁ o₂ o₃ : List ℕ} → at ≤ length o₀
     → Puts at word o₀ p o₁ → Puts p (decimal number) o₁ q o₂ → Puts q (10 ∷ []) o₂ r o₃ → Puts at (numberLine word number) o₀ r o₃
 unfolding numberLine
@@ -27,7 +24,7 @@ number-put word number h a b c = retext (append-assoc word (decimal number) (10 
 
 pub pickup-none : {pickup : Pickup} (out : List ℕ) (at : ℕ) → pickup ≡ Absent → Puts at (pickupLine pickup) out at out
 unfolding pickupLine
-pickup-none out at e = retext (ap pickupLine (sym e)) (none out at)
+pickup-none out at e = retext (ap pickupLine (sym e)) (nothing out at)
 
 pub pickup-put : (pickup : Pickup) (beat : Beat) {at p q r : ℕ} {o₀ o₁ o₂ o₃ : List ℕ} → pickup ≡ Present beat → at ≤ length o₀
     → Puts at pickupWord o₀ p o₁ → Puts p (beatText beat) o₁ q o₂ → Puts q (10 ∷ []) o₂ r o₃ → Puts at (pickupLine pickup) o₀ r o₃
@@ -58,7 +55,7 @@ head-put score {o₀ = o₀} a b c d e f =
 
 pub no-meters : (words : List ℕ) (out : List ℕ) (at : ℕ) → Puts at (meterLines words 0) out at out
 unfolding meterLines
-no-meters words out at = none out at
+no-meters words = nothing
 
 pub next-meter : (words : List ℕ) (k : ℕ) {at p r : ℕ} {o₀ o₁ o₂ : List ℕ} → at ≤ length o₀ → Puts at (meterLines words k) o₀ p o₁
     → Puts p (meterLine (getD words (3 * k) 0) (getD words (3 * k + 1) 0) (getD words (3 * k + 2) 0)) o₁ r o₂ → Puts at (meterLines words (k + 1)) o₀ r o₂
@@ -68,7 +65,7 @@ next-meter words k h x y = retext (rw (add-one k)) (behind h x y)
 module _ (nums : List ℤ) (dens bits : List ℕ) where
   pub no-tempos : (out : List ℕ) (at : ℕ) → Puts at (tempoLines nums dens bits 0) out at out
   unfolding tempoLines
-  no-tempos out at = none out at
+  no-tempos = nothing
 
   pub next-tempo : (k : ℕ) {num : ℤ} {at p r : ℕ} {o₀ o₁ o₂ : List ℕ} → at ≤ length o₀ → Puts at (tempoLines nums dens bits k) o₀ p o₁ → num ≡ getD nums k (pos 0)
       → Puts p (tempoLine (record { num = num; den = getD dens k 0 }) (getD bits k 0)) o₁ r o₂ → Puts at (tempoLines nums dens bits (k + 1)) o₀ r o₂

@@ -1,11 +1,12 @@
 -- The whole part, and where there are places a point and their figures.
 use Prim.Native.Nat.{_/_, _≤_}
+use native.Mathlib.Nat.{div-le-self}
 use native.Mathlib.Omega.{arith}
 use borrow.Author.Needs.{needs}
 use lib.ListN.{length}
 use Rattle.text.specs.Texts.{decimal}
 use Rattle.text.proofs.Laws.{behind, retext, digits32}
-use Rattle.form_text.proofs.Digits.{shorter, point-whole, point-parts, digits-length}
+use Rattle.form_text.proofs.Digits.{point-whole, point-parts, digits-length}
 use Rattle.form_text.proofs.tempos.point.Statement.{statement}
 use Rattle.form_text.proofs.tempos.point.Tie as tie
 
@@ -13,7 +14,7 @@ use Rattle.form_text.proofs.tempos.point.Tie as tie
 short : (c : tie.After-ten) → length (decimal (c .before .before .args .digits / c .ten .result)) ≤ 10
 short c =
     let a = c .before .before .args in
-    let q = shorter (a .digits) (c .ten .result) in
+    let q = div-le-self (a .digits) (c .ten .result) in
     digits32 (a .digits / c .ten .result) (omega arith)
 
 ten-requires : tie.Need-ten-requires
@@ -23,7 +24,7 @@ div-decimal : tie.Need-div-decimal
 div-decimal c = omega (arith, c .before .ten .ensures .1)
 
 cast-decimal : tie.Need-cast-decimal
-cast-decimal c = omega (arith, shorter (c .before .before .before .args .digits) (c .before .ten .result))
+cast-decimal c = omega (arith, div-le-self (c .before .before .before .args .digits) (c .before .ten .result))
 
 decimal-requires : tie.Need-decimal-requires
 decimal-requires c κs = omega (arith, short (c .before))
