@@ -52,7 +52,7 @@ unsure fits e = simp e
 
 pub no-squares : (square : ℕ) (out : List ℕ) (at : ℕ) → Puts at (repeated square 0) out at out
 unfolding repeated
-no-squares square out at = let e : at + 0 ≡ at = omega arith in rw e at (nothing out at)
+no-squares square = nothing
 
 pub one-square : (square count : ℕ) {at p r : ℕ} {out mid after : List ℕ} → at ≤ length out
     → Puts at (repeated square count) out p mid → Puts p (square ∷ []) mid r after → Puts at (repeated square (count + 1)) out r after
@@ -69,7 +69,7 @@ module _ (count : ℕ) where
 
   pub none-over : (out : List ℕ) (at : ℕ) → count ≤ 20 → Puts at (overText count) out at out
   unfolding overText
-  none-over out at h = let e : at + 0 ≡ at = omega arith in retext (simp (le-leb count 20 h)) (rw e at (nothing out at))
+  none-over out at h = retext (simp (le-leb count 20 h)) (nothing out at)
 
   pub some-over : {at p q u : ℕ} {o₀ o₁ o₂ o₃ : List ℕ} → 20 < count → at ≤ length o₀
       → Puts at (32 ∷ []) o₀ p o₁ → Puts p (amountText count 20) o₁ q o₂ → Puts q overWord o₂ u o₃ → Puts at (overText count) o₀ u o₃
