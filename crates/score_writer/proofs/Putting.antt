@@ -2,7 +2,7 @@
 use mathlib.Core.Path.{_≡_, refl, sym, ap, _∙_}
 use mathlib.Core.Bool.{Bool, true, false, cond}
 use mathlib.Core.List.{List, [], _∷_, _++_, append-assoc, append-nil}
-use Prim.Native.Nat.{ℕ, zero, suc, _+_, _-_, _*_, _/_, _%_, _≤_, _<_}
+use Prim.Native.Nat.{ℕ, zero, suc, _+_, _*_, _/_, _%_, _≤_, _<_}
 use native.Mathlib.Numerals.{add-one}
 use native.Mathlib.Omega.{arith}
 use borrow.Author.Tests.{eq-eqb, le-leb}
@@ -41,9 +41,7 @@ one-word w = append-nil (wordBytes w)
 
 pub no-words : (out : List ℕ) (at : ℕ) → Puts at (wordsBytes []) out at out
 unfolding wordsBytes
-no-words out at =
-    let e : at + 0 ≡ at = omega arith in
-    rw e at (nothing out at)
+no-words = nothing
 
 -- ---- a word, and one word more
 
