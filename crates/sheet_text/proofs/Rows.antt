@@ -53,7 +53,7 @@ module _ (l : ℕ) (b : Beat) (f : ℕ) where
 module _ (t : Transport) (map : List MeterPoint) (points : List TempoPoint) where
   pub no-lines : (out : List ℕ) (at : ℕ) → Puts at (linesOf t map points 0) out at out
   unfolding linesOf
-  no-lines out at = let e : at + 0 ≡ at = omega arith in rw e at (nothing out at)
+  no-lines = nothing
 
   pub next-line : (k : ℕ) {at p r : ℕ} {out mid after : List ℕ} → at ≤ length out
       → Puts at (linesOf t map points k) out p mid → Puts p (lineOf t map points k) mid r after → Puts at (linesOf t map points (k + 1)) out r after
