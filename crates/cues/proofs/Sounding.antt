@@ -1,6 +1,6 @@
 -- The cues of a run are those of its first frames, and then those of the rest from where the first frames end. It goes by the frame sounded.
 use mathlib.Core.Path.{_≡_, refl, sym, ap, _∙_}
-use mathlib.Core.Bool.{Bool, true, false, cond, not, _&&_, _||_}
+use mathlib.Core.Bool.{Bool, true, false}
 use mathlib.Core.List.{List, [], _∷_, _++_, map, append-nil, append-assoc}
 use mathlib.Core.Option.{Option, none, some}
 use Prim.Native.Nat.{ℕ, zero, suc, _+_, _-_, _≤_, _^_}
@@ -8,6 +8,7 @@ use native.Mathlib.Nat.{add-zero, zero-add, add-suc}
 use native.Mathlib.Omega.{arith}
 use lib.Dec.{eqb}
 use lib.ListN.{length}
+use Rattle.numbers.proofs.Laws.{by-flag}
 use Rattle.transport.specs.declared.playhead.Run.{Run}
 use Rattle.transport.specs.declared.Transport.{Transport}
 use Rattle.transport.specs.Transports.{sound, playing}
@@ -38,11 +39,9 @@ module _ (t : Transport) (a b : ℕ) (h : t .position + (a + b) ≤ 2 ^ 64 - 1) 
   sounds-by false e p = simp (whole .finishes, whole .ends, e, advanced-plays t a, p)
 
   pub sounds-on : soundedAt t (a + b) ≡ soundedAt after b
-  sounds-on = go (playing (t .state)) refl
-    where
-      go : (q : Bool) → playing (t .state) ≡ q → soundedAt t (a + b) ≡ soundedAt after b
-      go true p = sounds-playing t (a + b) p ∙ sounds-by (advanced t a .finished) refl p
-      go false p = sounds-none t (a + b) p ∙ sym (sounds-none after b (ap (λ (run : Run). playing (run .transport .state)) (stays-put t a p) ∙ p))
+  sounds-on =
+      by-flag (playing (t .state)) (λ p. sounds-playing t (a + b) p ∙ sounds-by (advanced t a .finished) refl p)
+      (λ p. sounds-none t (a + b) p ∙ sym (sounds-none after b (ap (λ (run : Run). playing (run .transport .state)) (stays-put t a p) ∙ p)))
 
 -- ---- cues, later
 
