@@ -1,10 +1,12 @@
 -- A loop that stores the points of flat words, one after another: those that are stored, and those that are left.
 use mathlib.Core.Path.{_≡_, refl, sym, ap, _∙_}
 use mathlib.Core.List.{List, [], _∷_, _++_, append-assoc, append-nil}
-use Prim.Native.Nat.{ℕ, suc, _+_, _*_, _<_, _≤_}
+use Prim.Native.Nat.{ℕ, _+_, _*_, _<_, _≤_}
 use native.Mathlib.Omega.{arith}
 use lib.ListN.{length, set, take, drop, length-set}
 use lib.Seq.{take-suc-set}
+use native.Mathlib.Nat.{add-mul}
+use native.Mathlib.Numerals.{add-one}
 use Rattle.meter.specs.declared.MeterPoint.{MeterPoint}
 use Rattle.meter.specs.Meters.{pointsOf}
 use Rattle.meter.proofs.Laws.{pointAt, left, points-step, points-end}
@@ -22,16 +24,10 @@ module _ (most : ℕ) (words : List ℕ) (points : List MeterPoint) where
   one-more k point F inside more e = record { long = length-set points k point ∙ F .long; stored = behind ∙ F .stored }
     where
       first : take (k + 1) (set points k point) ≡ take k points ++ (point ∷ [])
-      first = ap (λ (j : ℕ). take j (set points k point)) (next k) ∙ take-suc-set points k point (omega (arith, F .long, inside))
-        where
-          next : (j : ℕ) → j + 1 ≡ suc j
-          next j = omega arith
+      first = ap (λ (j : ℕ). take j (set points k point)) (add-one k) ∙ take-suc-set points k point (omega (arith, F .long, inside))
 
       later : left words ((k + 1) * 3) ≡ pointsOf (drop (k * 3 + 3) words)
-      later = ap (λ (j : ℕ). pointsOf (drop j words)) (three k)
-        where
-          three : (j : ℕ) → (j + 1) * 3 ≡ j * 3 + 3
-          three j = omega arith
+      later = ap (λ (j : ℕ). pointsOf (drop j words)) (add-mul k 1 3)
 
       behind : take (k + 1) (set points k point) ++ left words ((k + 1) * 3) ≡ take k points ++ left words (k * 3)
       behind =
