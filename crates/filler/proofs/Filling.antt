@@ -2,7 +2,7 @@
 use mathlib.Core.Path.{_≡_, refl, sym, ap, _∙_}
 use mathlib.Core.List.{List}
 use Prim.Native.Nat.{ℕ, zero, suc, _+_, _≤_, _<_}
-use native.Mathlib.Nat.{ne-of-lt}
+use native.Mathlib.Nat.{ne-of-lt, add-zero, suc-add, add-suc, zero-add}
 use native.Mathlib.Omega.{arith}
 use borrow.Author.Count.{below-none, below-more}
 use lib.IntN.{ℤ}
@@ -31,22 +31,13 @@ module _ (ask : ℕ → ℕ) where
   pub entries-at : (k n j : ℕ) → j < n → getD (entries ask k n) j 0 ≡ ask (k + j)
   unfolding entries
   entries-at k zero j h = absurd (omega arith)
-  entries-at k (suc n) zero h = ap ask (plus k)
-    where
-      plus : (a : ℕ) → a ≡ a + 0
-      plus a = omega arith
-  entries-at k (suc n) (suc j) h = entries-at (suc k) n j (omega arith) ∙ ap ask (plus k j)
-    where
-      plus : (a b : ℕ) → suc a + b ≡ a + suc b
-      plus a b = omega arith
+  entries-at k (suc n) zero h = ap ask (sym (add-zero k))
+  entries-at k (suc n) (suc j) h = entries-at (suc k) n j (omega arith) ∙ ap ask (suc-add k j ∙ sym (add-suc k j))
 
   are-entries : (out : List ℕ) → ((j : ℕ) → j < length out → getD out j 0 ≡ ask j) → out ≡ entries ask 0 (length out)
   are-entries out h =
       ext-getD 0 out (entries ask 0 (length out)) (sym (entries-length 0 (length out)))
-      (λ j l. h j l ∙ sym (entries-at 0 (length out) j l ∙ ap ask (from-zero j)))
-    where
-      from-zero : (a : ℕ) → 0 + a ≡ a
-      from-zero a = omega arith
+      (λ j l. h j l ∙ sym (entries-at 0 (length out) j l ∙ ap ask (zero-add j)))
 
 -- ---- the loop
 

@@ -1,14 +1,13 @@
 -- The marks of the bars give the number in force from bar to bar, and say where the meter may change.
 use mathlib.Core.Path.{_≡_, refl, sym, ap, _∙_, subst}
-use mathlib.Core.Bool.{Bool, true, false}
 use mathlib.Core.List.{List, [], _∷_}
-use Prim.Native.Nat.{ℕ, zero, suc, min, max, _+_, _-_, _*_, _<_, _≤_}
-use native.Mathlib.Nat.{le-refl, min-eq-left, min-eq-right}
+use Prim.Native.Nat.{ℕ, zero, suc, max, _+_, _-_, _*_, _<_, _≤_}
+use native.Mathlib.Nat.{le-refl, min-eq-left, min-eq-right, max-eq-left, max-eq-right, suc-mul, suc-sub-suc, sub-zero}
 use native.Mathlib.Omega.{arith}
 use lib.Dec.{eqb}
 use lib.ListN.{length, getD}
 use borrow.Author.Tests.{eq-eqb, ne-eqb, eqb-true, eqb-false, lt-ltb, le-ltb}
-use Rattle.numbers.proofs.Laws.{by-order}
+use Rattle.numbers.proofs.Laws.{by-order, by-flag}
 use Rattle.meter.specs.declared.MeterPoint.{MeterPoint}
 use Rattle.meter.specs.Meters.{pointsOf, lastAt, nearer, nextChange, fallback, meterAt}
 use Rattle.meter.proofs.Laws.{pointAt, left, points-step, points-end, nearer-above, nearer-else, later-in, later-out}
@@ -35,11 +34,7 @@ module _ (count : ℕ) (point : MeterPoint) (rest : List MeterPoint) (bar found 
   force-out h = rw (le-ltb (point .bar) bar h)
 
 pub by-bar : {A : Type 0} (a b : ℕ) → (a ≡ b → A) → ((a ≡ b → ⊥) → A) → A
-by-bar {A} a b own other = go (eqb a b) refl
-  where
-    go : (t : Bool) → eqb a b ≡ t → A
-    go true e = own (eqb-true a b e)
-    go false e = other (eqb-false a b e)
+by-bar a b own other = by-flag (eqb a b) (λ e. own (eqb-true a b e)) (λ e. other (eqb-false a b e))
 
 -- ---- where a bar has no mark
 
@@ -119,26 +114,20 @@ force-more count (point ∷ rest) bar f m p q =
     by-order (point .bar) bar
     (λ h.
     force-in count point rest (bar + 1) (max f m) (omega arith)
-    ∙ ap (forceFrom (suc count) rest (bar + 1)) (most (suc count) m (omega arith))
+    ∙ ap (forceFrom (suc count) rest (bar + 1)) (sym (max-eq-left {n = suc count} {m = m} (omega arith)))
     ∙ force-more (suc count) rest bar (suc count) m (le-refl (suc count)) (omega arith)
     ∙ sym (λ i. max (force-in count point rest bar f h i) (mark-other count point rest bar m (λ e. omega arith) i)))
     (λ h.
     by-bar (point .bar) bar
     (λ own.
     force-in count point rest (bar + 1) (max f m) (omega arith)
-    ∙ ap (forceFrom (suc count) rest (bar + 1)) (last f (suc count) (omega arith))
+    ∙ ap (forceFrom (suc count) rest (bar + 1)) (sym (max-eq-right {n = f} {m = suc count} (omega arith)))
     ∙ force-more (suc count) rest bar f (suc count) (omega arith) (le-refl (suc count))
     ∙ sym (λ i. max (force-out count point rest bar f h i) (mark-own count point rest bar m own i)))
     (λ other.
     force-out count point rest (bar + 1) (max f m) (omega (arith, other))
     ∙ force-more (suc count) rest bar f m (omega arith) (omega arith)
     ∙ sym (λ i. max (force-out count point rest bar f h i) (mark-other count point rest bar m other i))))
-  where
-    most : (x y : ℕ) → y ≤ x → x ≡ max x y
-    most x y g = omega arith
-
-    last : (x y : ℕ) → x ≤ y → y ≡ max x y
-    last x y g = omega arith
 
 -- one bar further it is the larger of the number in force and the bar's mark: the point that is listed later
 pub force-on : (map : List MeterPoint) (bar : ℕ) → forceOf map (bar + 1) ≡ max (forceOf map bar) (markOf map bar)
@@ -196,11 +185,8 @@ module _ (words : List ℕ) (default bar : ℕ) where
       (λ k. same-in count f (pointAt words (count * 3)) (left words (count * 3 + 3)) k (number-point count) (from (suc count) (meter-more n (suc count) (suc count) (omega arith))))))
       (λ l. subst (Same count f) (sym (points-end words (count * 3) l)) (same-none count f))
     where
-      three : (c : ℕ) → suc c * 3 ≡ c * 3 + 3
-      three c = omega arith
-
       from : (g : ℕ) → Same (suc count) g (left words (suc count * 3)) → Same (suc count) g (left words (count * 3 + 3))
-      from g s = subst (λ (i : ℕ). Same (suc count) g (left words i)) (three count) s
+      from g s = subst (λ (i : ℕ). Same (suc count) g (left words i)) (suc-mul count 3) s
 
   no-number : fallback default ≡ numbered words default 0
   unfolding numbered
@@ -221,7 +207,4 @@ module _ (words : List ℕ) (default : ℕ) where
   pub numbered-point : (number : ℕ) → (number ≡ 0 → ⊥) → pointAt words ((number - 1) * 3) ≡ numbered words default number
   unfolding numbered
   numbered-point zero e = absurd (e refl)
-  numbered-point (suc n) e = ap (λ (k : ℕ). pointAt words (k * 3)) (less n)
-    where
-      less : (k : ℕ) → suc k - 1 ≡ k
-      less k = omega arith
+  numbered-point (suc n) e = ap (λ (k : ℕ). pointAt words (k * 3)) (suc-sub-suc n 0 ∙ sub-zero n)

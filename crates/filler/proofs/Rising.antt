@@ -1,7 +1,7 @@
 -- A tempo map without problems whose numerators are small has points whose floats go up from 0.
 use mathlib.Core.Path.{_≡_, refl, sym, ap, _∙_, subst}
 use mathlib.Core.Bool.{Bool, true, false, not, true≢false}
-use mathlib.Core.List.{List, [], _∷_, _++_}
+use mathlib.Core.List.{List, [], _∷_, _++_, append-eq-nil-iff}
 use Prim.Native.Nat.{ℕ, suc}
 use lib.Dec.{T, ltb}
 use lib.IntN.{ℤ, pos}
@@ -20,19 +20,11 @@ use Rattle.tempo.specs.Answers.{allBeats}
 use Rattle.tempo.specs.Tempos.{tempoOf, tempoPoints}
 use Rattle.tempo.specs.Rising.{Follows, RisingFrom, RisingMap}
 use Rattle.tempo.proofs.Laws.{finite-tempo}
-use Rattle.problems.specs.Problems.{Problem, problemIf, Listed, listed, soundTempo, tempoBits, tempoPointsAfter, tempoProblems}
+use Rattle.problems.specs.Problems.{problemIf, Listed, listed, soundTempo, tempoBits, tempoPointsAfter, tempoProblems}
 use Rattle.filler.specs.Promise.{smallBeat, allSmall}
 use Rattle.filler.proofs.Ordering.{Placed, exactly, zero-placed, placed-finite, placed-up, placed-below, placed-zero, placed-after, beat-zero}
 
 -- ---- a list of problems that is empty
-
-none-left : (xs ys : List Problem) → xs ++ ys ≡ [] → xs ≡ []
-none-left [] ys e = refl
-none-left (x ∷ xs) ys e = cc
-
-none-right : (xs ys : List Problem) → xs ++ ys ≡ [] → ys ≡ []
-none-right [] ys e = e
-none-right (x ∷ xs) ys e = cc
 
 none-when : (found : Bool) (code index value : ℕ) → problemIf found code index value ≡ [] → found ≡ false
 none-when true code index value e = cc
@@ -71,12 +63,13 @@ rises index before (num ∷ nums) (den ∷ dens) (bits ∷ tempos) p b e s =
     let after = problemIf (not (belowBeat before at)) 9 index 0 in
     let rest = tempoPointsAfter (suc index) at (listed nums dens tempos) in
     let above = beat-above at (and-left (isBeat at) (allBeats nums dens) b) in
-    let below = not-false (belowBeat before at) (none-when (not (belowBeat before at)) 9 index 0 (none-left after rest (none-right (tempoBits index point) (after ++ rest) e))) in
+    let own = append-eq-nil-iff {p = tempoBits index point} {q = after ++ rest} .0 e in
+    let others = append-eq-nil-iff {p = after} {q = rest} .0 (own .1) in
+    let below = not-false (belowBeat before at) (none-when (not (belowBeat before at)) 9 index 0 (others .0)) in
     let q = placed-after exactly at above (and-left (smallBeat exactly at) (allSmall (listed nums dens tempos)) s) before p below in (
       follows (beatFloat (before .num) (before .den)) index num den bits q
-          (up→le (beatFloat (before .num) (before .den)) (beatFloat num den) (placed-below before at p q below)) (none-left (tempoBits index point) (after ++ rest) e),
-      rises (suc index) at nums dens tempos q (and-right (isBeat at) (allBeats nums dens) b)
-          (none-right after rest (none-right (tempoBits index point) (after ++ rest) e)) (and-right (smallBeat exactly at) (allSmall (listed nums dens tempos)) s),
+          (up→le (beatFloat (before .num) (before .den)) (beatFloat num den) (placed-below before at p q below)) (own .0),
+      rises (suc index) at nums dens tempos q (and-right (isBeat at) (allBeats nums dens) b) (others .1) (and-right (smallBeat exactly at) (allSmall (listed nums dens tempos)) s),
     )
 
 -- the map
@@ -93,12 +86,13 @@ map-rises (num ∷ nums) (den ∷ dens) (bits ∷ tempos) b e s =
     let late = problemIf (belowBeat (wholeBeat (pos 0)) at) 7 0 0 in
     let early = problemIf (belowBeat at (wholeBeat (pos 0))) 7 0 0 in
     let rest = tempoPointsAfter 1 at (listed nums dens tempos) in
-    let ends = none-right late (early ++ (tempoBits 0 point ++ rest)) (none-right many (late ++ (early ++ (tempoBits 0 point ++ rest))) e) in
-    let below = none-when (belowBeat at (wholeBeat (pos 0))) 7 0 0 (none-left early (tempoBits 0 point ++ rest) ends) in
-    let left = none-right early (tempoBits 0 point ++ rest) ends in
+    let timed = append-eq-nil-iff {p = many} {q = late ++ (early ++ (tempoBits 0 point ++ rest))} .0 e .1 in
+    let ends = append-eq-nil-iff {p = early} {q = tempoBits 0 point ++ rest} .0 (append-eq-nil-iff {p = late} {q = early ++ (tempoBits 0 point ++ rest)} .0 timed .1) in
+    let below = none-when (belowBeat at (wholeBeat (pos 0))) 7 0 0 (ends .0) in
+    let left = append-eq-nil-iff {p = tempoBits 0 point} {q = rest} .0 (ends .1) in
     let q = placed-zero exactly at (beat-above at (and-left (isBeat at) (allBeats nums dens) b)) (and-left (smallBeat exactly at) (allSmall (listed nums dens tempos)) s) below in (
       follows float0 0 num den bits q
           (subst (λ (x : Float). T (le x (beatFloat num den))) beat-zero
-          (up→le (beatFloat (pos 0) 1) (beatFloat num den) (placed-up (wholeBeat (pos 0)) at zero-placed q below))) (none-left (tempoBits 0 point) rest left),
-      rises 1 at nums dens tempos q (and-right (isBeat at) (allBeats nums dens) b) (none-right (tempoBits 0 point) rest left) (and-right (smallBeat exactly at) (allSmall (listed nums dens tempos)) s),
+          (up→le (beatFloat (pos 0) 1) (beatFloat num den) (placed-up (wholeBeat (pos 0)) at zero-placed q below))) (left .0),
+      rises 1 at nums dens tempos q (and-right (isBeat at) (allBeats nums dens) b) (left .1) (and-right (smallBeat exactly at) (allSmall (listed nums dens tempos)) s),
     )

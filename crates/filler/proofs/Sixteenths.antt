@@ -5,7 +5,7 @@ use mathlib.Core.Bool.{true, _&&_}
 use mathlib.Core.Logic.{inl, inr}
 use mathlib.Core.List.{List, [], _∷_}
 use Prim.Native.Nat.{ℕ, zero, suc, _+_, _-_, _*_, _/_, _%_, _^_, _≤_, _<_, _∣_}
-use native.Mathlib.Nat.{mul-pos, eq-of-mul-eq-mul-right, le-of-mul-le-mul-right, mul-div-cancel', add-suc, add-zero, mul-assoc, mul-right-comm}
+use native.Mathlib.Nat.{mul-pos, eq-of-mul-eq-mul-right, le-of-mul-le-mul-right, mul-div-cancel', add-suc, add-zero, mul-assoc, mul-right-comm, pow-succ', eq-one-of-dvd-one, dvd-mul-right, add-sub-of-le, zero-mul}
 use native.Mathlib.Omega.{arith}
 use lib.Dec.{leb, ltb, lit<}
 use lib.ListN.{length}
@@ -26,36 +26,24 @@ use Rattle.filler.proofs.Wide.{Dyadic}
 
 -- ---- powers of two
 
-twice-pow : (s : ℕ) → 2 ^ suc s ≡ 2 * 2 ^ s
-twice-pow s = ap (λ (k : ℕ). 2 ^ k) (one-more s) ∙ pow-add 2 1 s
-  where
-    one-more : (k : ℕ) → suc k ≡ 1 + k
-    one-more k = omega arith
-
 -- a divisor of a power of two is one
 pow-divisor : (s x y : ℕ) → x * y ≡ 2 ^ s → (a : ℕ) × (x ≡ 2 ^ a)
-pow-divisor zero x y e = (0, unit x y e)
-  where
-    unit : (x y : ℕ) → x * y ≡ 1 → x ≡ 1
-    unit zero y e = omega arith
-    unit (suc zero) y e = refl
-    unit (suc (suc x)) zero e = omega arith
-    unit (suc (suc x)) (suc y) e = absurd (omega arith)
+pow-divisor zero x y e = (0, eq-one-of-dvd-one (subst (λ (z : ℕ). x ∣ z) e (dvd-mul-right x y)))
 pow-divisor (suc s) x y e =
     by-order (x % 2) 1
     (λ h.
     let ex : x ≡ 2 * (x / 2) = omega arith in
-    let w = pow-divisor s (x / 2) y (omega (arith, e, twice-pow s, ap (λ (z : ℕ). z * y) ex)) in
-    (suc (w .0), ex ∙ ap (λ (z : ℕ). 2 * z) (w .1) ∙ sym (twice-pow (w .0))))
+    let w = pow-divisor s (x / 2) y (omega (arith, e, pow-succ' 2 s, ap (λ (z : ℕ). z * y) ex)) in
+    (suc (w .0), ex ∙ ap (λ (z : ℕ). 2 * z) (w .1) ∙ sym (pow-succ' 2 (w .0))))
     (λ h.
     let ex : x ≡ 2 * (x / 2) + 1 = omega arith in
     by-order (y % 2) 1
     (λ k.
     let ey : y ≡ 2 * (y / 2) = omega arith in
-    pow-divisor s x (y / 2) (omega (arith, e, twice-pow s, ap (λ (z : ℕ). x * z) ey)))
+    pow-divisor s x (y / 2) (omega (arith, e, pow-succ' 2 s, ap (λ (z : ℕ). x * z) ey)))
     (λ k.
     let ey : y ≡ 2 * (y / 2) + 1 = omega arith in
-    absurd (odd x y (x / 2) (y / 2) (2 ^ s) ex ey (e ∙ twice-pow s))))
+    absurd (odd x y (x / 2) (y / 2) (2 ^ s) ex ey (e ∙ pow-succ' 2 s))))
   where
     odd : (x y a b p : ℕ) → x ≡ 2 * a + 1 → y ≡ 2 * b + 1 → x * y ≡ 2 * p → ⊥
     odd x y a b p ex ey e =
@@ -80,7 +68,7 @@ dyadic d e D E u v =
     whole x y ex ey = omega (arith, ap (λ (z : ℕ). z * x) ey, ex)
 
     split : (a b : ℕ) → b ≤ a → 2 ^ a ≡ 2 ^ b * 2 ^ (a - b)
-    split a b h = let e : a ≡ b + (a - b) = omega arith in ap (λ (z : ℕ). 2 ^ z) e ∙ pow-add 2 b (a - b)
+    split a b h = ap (λ (z : ℕ). 2 ^ z) (sym (add-sub-of-le h)) ∙ pow-add 2 b (a - b)
 
 -- ---- lengths in sixteenths
 
@@ -124,11 +112,8 @@ module _ (map : List MeterPoint) (default : ℕ) (pickup : Pickup) (sound : soun
     span zero = (
       0,
       subst (λ (b : Beat). Worth b (pos (n * 16 + 0 * den)) (den * 16)) (ap exact (sym (add-zero i)))
-          (subst (λ (z : ℤ). Worth (exact i) z (den * 16)) (ap (λ (z : ℤ). z *ℤ pos 16) is ∙ ap pos (none (n * 16) den)) (own-value (exact i) 16)),
+          (subst (λ (z : ℤ). Worth (exact i) z (den * 16)) (ap (λ (z : ℤ). z *ℤ pos 16) is ∙ ap pos (sym (ap (λ (z : ℕ). n * 16 + z) (zero-mul den) ∙ add-zero (n * 16)))) (own-value (exact i) 16)),
     )
-      where
-        none : (a b : ℕ) → a ≡ a + 0 * b
-        none a b = omega arith
     span (suc k) =
         let w = span k in
         let m = sixteenths (meterAt map default (i + k)) in
@@ -138,14 +123,11 @@ module _ (map : List MeterPoint) (default : ℕ) (pickup : Pickup) (sound : soun
           subst (λ (b : Beat). Worth b (pos (n * 16 + (w .0 + m) * den)) (den * 16)) (sym (ap exact (add-suc i k)))
               (subst (λ (x : ℕ). Worth (exact (suc (i + k))) (pos x) (den * 16)) (more (n * 16) (w .0) m den)
               (sum-has a l (pos (n * 16 + w .0 * den)) (pos (m * den)) (den * 16) (beat-above a (exact-beat map default pickup (i + k))) (beat-above l (later-beat (i + k) (omega arith))) (w .1)
-              (value-same l (pos m) (pos (m * den)) 16 (den * 16) (lit< tt) (ap pos (spread m den)) (sixteenths-long (i + k) (omega arith))))),
+              (value-same l (pos m) (pos (m * den)) 16 (den * 16) (lit< tt) (ap pos (sym (mul-assoc m den 16))) (sixteenths-long (i + k) (omega arith))))),
         )
       where
         more : (a s m d : ℕ) → a + s * d + m * d ≡ a + (s + m) * d
         more a s m d = omega arith
-
-        spread : (m d : ℕ) → m * (d * 16) ≡ m * d * 16
-        spread m d = omega arith
 
     -- their denominators
     pub starts-dyadic : (j m : ℕ) → i ≤ j → exact j .num ≡ pos m → Dyadic (exact i .den) (exact j .den)

@@ -1,9 +1,9 @@
 -- Beats whose denominators differ by a power of two alone keep their order as floats, whatever their numerators of 64 bits: a power of two goes through the rounding of a numerator.
-use mathlib.Core.Path.{_≡_, sym, ap, subst}
+use mathlib.Core.Path.{_≡_, sym, ap, subst, _∙_}
 use mathlib.Core.Bool.{true, false}
 use mathlib.Core.Logic.{_⊎_, ⊎-elim}
-use Prim.Native.Nat.{ℕ, zero, suc, _*_, _^_, _≤_, _<_}
-use native.Mathlib.Nat.{le-trans, le-of-eq, mul-pos, mul-one, one-mul, mul-comm, mul-assoc, mul-left-comm, mul-le-mul, mul-le-mul-right, le-of-mul-le-mul-right, lt-of-lt-of-le}
+use Prim.Native.Nat.{ℕ, _*_, _^_, _≤_, _<_, zero-le}
+use native.Mathlib.Nat.{le-trans, le-of-eq, mul-pos, mul-one, one-mul, mul-comm, mul-assoc, mul-left-comm, mul-le-mul, mul-le-mul-right, le-of-mul-le-mul-right, lt-of-lt-of-le, zero-mul, mul-right-comm}
 use native.Mathlib.Omega.{arith}
 use lib.IntN.{pos}
 use lib.Dec.{T, lit<, lit≤}
@@ -14,6 +14,7 @@ use lib.Ieee.Exact.{HasValue}
 use lib.Ieee.Back.{round-whole}
 use lib.Ieee.Order.{transfer}
 use lib.Ieee.Scale.{finite, grid, round-val, round-under, grid-scale, normal-of-fraction}
+use lib.Ieee.Positive.{first-pos}
 use Rattle.rounding.proofs.Laws.{Up, round-up, quotient-is}
 use Rattle.beats.specs.Frames.{beatFloat}
 use Rattle.filler.proofs.Ordering.{finite-under, beat-is}
@@ -92,10 +93,7 @@ module _ (n d : ℕ) (N : n ≤ 2 ^ 64) (D : 0 < d) (L : d ≤ 2 ^ 53) where
   -- and not below 0
   pub wide-zero : (d' : ℕ) → 0 < d' → d' ≤ 2 ^ 53 → Up (beatFloat (pos 0) d') (beatFloat (pos n) d)
   wide-zero d' D' L' =
-      rw (wide-is, beat-is 0 d' (lit≤ tt) D' L') (round-up binary64 0 d' (rounded n) (d * unit) D' (mul-pos D (pow-pos (low binary64))) (none (d * unit) (rounded n * d')))
-    where
-      none : (a b : ℕ) → 0 * a ≤ b
-      none a b = omega arith
+      rw (wide-is, beat-is 0 d' (lit≤ tt) D' L') (round-up binary64 0 d' (rounded n) (d * unit) D' (mul-pos D (pow-pos (low binary64))) (le-trans (le-of-eq (zero-mul (d * unit))) zero-le))
 
 -- n / (q * 2 ^ i) and n' / (q * 2 ^ j)
 odd-up : (n n' q i j : ℕ) → 0 < n → n ≤ 2 ^ 64 → n' ≤ 2 ^ 64 → 0 < q → q * 2 ^ i ≤ 2 ^ 53 → q * 2 ^ j ≤ 2 ^ 53 → n * 2 ^ j ≤ n' * 2 ^ i
@@ -104,19 +102,15 @@ odd-up n n' q i j P N N' Q I J h =
     subst (λ (z : Float). Up z (beatFloat (pos n') (q * 2 ^ j))) (sym (wide-is n (q * 2 ^ i) N (mul-pos Q (pow-pos i)) I))
     (subst (λ (z : Float). Up (round binary64 false (rounded n) (q * 2 ^ i * unit)) z) (sym (wide-is n' (q * 2 ^ j) N' (mul-pos Q (pow-pos j)) J))
     (round-up binary64 (rounded n) (q * 2 ^ i * unit) (rounded n') (q * 2 ^ j * unit) (mul-pos (mul-pos Q (pow-pos i)) (pow-pos (low binary64))) (mul-pos (mul-pos Q (pow-pos j)) (pow-pos (low binary64)))
-    (spread (rounded n) (rounded n') q (2 ^ i) (2 ^ j) unit (scaled-order n n' i j P (first n' (2 ^ i) (lt-of-lt-of-le (mul-pos P (pow-pos j)) h)) N N' (le-trans (under q (2 ^ i) Q) I) (le-trans (under q (2 ^ j) Q) J) h))))
+    (spread (rounded n) (rounded n') q (2 ^ i) (2 ^ j) unit (scaled-order n n' i j P (first-pos n' (2 ^ i) (lt-of-lt-of-le (mul-pos P (pow-pos j)) h)) N N' (le-trans (under q (2 ^ i) Q) I) (le-trans (under q (2 ^ j) Q) J) h))))
   where
     under : (q a : ℕ) → 0 < q → a ≤ q * a
     under q a h = le-trans (le-of-eq (sym (one-mul a))) (mul-le-mul-right a h)
 
-    first : (n u : ℕ) → 0 < n * u → 0 < n
-    first zero u h = omega arith
-    first (suc n) u h = omega arith
-
     spread : (g g' q a b u : ℕ) → g * b ≤ g' * a → g * (q * b * u) ≤ g' * (q * a * u)
     spread g g' q a b u h =
-        let l : g * (q * b * u) ≡ g * b * (q * u) = simp (mul-assoc, mul-comm, mul-left-comm) in
-        let r : g' * (q * a * u) ≡ g' * a * (q * u) = simp (mul-assoc, mul-comm, mul-left-comm) in
+        let l : g * (q * b * u) ≡ g * b * (q * u) = simp (mul-assoc, mul-left-comm) in
+        let r : g' * (q * a * u) ≡ g' * a * (q * u) = simp (mul-assoc, mul-left-comm) in
         le-trans (le-of-eq l) (le-trans (mul-le-mul-right (q * u) h) (le-of-eq (sym r)))
 
 -- ---- denominators that differ by a power of two
@@ -130,19 +124,13 @@ dyadic-up n d n' d' P N N' D D' L L' w h =
     let c = w .0 in
     ⊎-elim
     (λ e.
-    let m : n * 2 ^ c ≤ n' * 2 ^ 0 = le-of-mul-le-mul-right (le-trans (le-of-eq (shift n (2 ^ c) d)) (le-trans (le-of-eq (ap (λ (x : ℕ). n * x) (sym e))) (le-trans h (le-of-eq (one n' d))))) D in
+    let m : n * 2 ^ c ≤ n' * 2 ^ 0 = le-of-mul-le-mul-right (le-trans (le-of-eq (mul-right-comm n (2 ^ c) d ∙ mul-assoc n d (2 ^ c))) (le-trans (le-of-eq (ap (λ (x : ℕ). n * x) (sym e))) (le-trans h (mul-le-mul-right d (le-of-eq (sym (mul-one n'))))))) D in
     subst (λ (x : ℕ). Up (beatFloat (pos n) x) (beatFloat (pos n') d')) (mul-one d)
     (subst (λ (x : ℕ). Up (beatFloat (pos n) (d * 2 ^ 0)) (beatFloat (pos n') x)) (sym e)
     (odd-up n n' d 0 c P N N' D (le-trans (le-of-eq (mul-one d)) L) (le-trans (le-of-eq (sym e)) L') m)))
     (λ e.
-    let m : n * 2 ^ 0 ≤ n' * 2 ^ c = le-of-mul-le-mul-right (le-trans (le-of-eq (sym (one n d'))) (le-trans h (le-trans (le-of-eq (ap (λ (x : ℕ). n' * x) e)) (le-of-eq (sym (shift n' (2 ^ c) d')))))) D' in
+    let m : n * 2 ^ 0 ≤ n' * 2 ^ c = le-of-mul-le-mul-right (le-trans (mul-le-mul-right d' (le-of-eq (mul-one n))) (le-trans h (le-trans (le-of-eq (ap (λ (x : ℕ). n' * x) e)) (le-of-eq (sym (mul-right-comm n' (2 ^ c) d' ∙ mul-assoc n' d' (2 ^ c))))))) D' in
     subst (λ (x : ℕ). Up (beatFloat (pos n) d) (beatFloat (pos n') x)) (mul-one d')
     (subst (λ (x : ℕ). Up (beatFloat (pos n) x) (beatFloat (pos n') (d' * 2 ^ 0))) (sym e)
     (odd-up n n' d' c 0 P N N' D' (le-trans (le-of-eq (sym e)) L) (le-trans (le-of-eq (mul-one d')) L') m)))
     (w .1)
-  where
-    shift : (a p q : ℕ) → a * p * q ≡ a * (q * p)
-    shift a p q = omega arith
-
-    one : (a q : ℕ) → a * q ≡ a * 1 * q
-    one a q = omega arith
