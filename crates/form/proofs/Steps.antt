@@ -1,12 +1,13 @@
 -- What a line does, by what it says: the points stand at the front of longer lists.
 use mathlib.Core.Path.{_≡_, refl, ap, _∙_}
-use mathlib.Core.Bool.{Bool, true, false}
 use mathlib.Core.List.{List, [], _∷_}
-use Prim.Native.Nat.{ℕ, _+_, _*_, _≤_, _<_}
+use Prim.Native.Nat.{ℕ, _*_, _≤_, _<_}
 use native.Mathlib.Omega.{arith}
 use borrow.Author.Tests.{ltb-true}
 use lib.Dec.{ltb}
 use lib.IntN.{ℤ}
+use native.Mathlib.Nat.{mul-add}
+use Rattle.numbers.proofs.Laws.{by-flag}
 use Rattle.beats.specs.declared.Beat.{Beat}
 use Rattle.meter.specs.declared.Pickup.{Pickup}
 use Rattle.meter.specs.declared.Pickup.the-variants.{Absent, Present}
@@ -75,27 +76,18 @@ module _ (draft : Draft) (meter : List ℕ) (nums : List ℤ) (dens bits : List 
       → (draft .meters < 256 → Behind (3 * draft .meters) (bar ∷ num ∷ den ∷ []) meter later)
       → readStep step later nums dens bits ≡ takenBy (front draft meter nums dens bits) (I.MeterPoint bar num den)
   unfolding readStep takenBy metered front withMeter moreMeters
-  meter-step later bar num den e h = ap (λ (s : Step). readStep s later nums dens bits) e ∙ go (ltb (draft .meters) 256) refl
-    where
-      more : 3 * (draft .meters + 1) ≡ 3 * draft .meters + 3
-      more = omega arith
-
-      go : (b : Bool) → ltb (draft .meters) 256 ≡ b
-          → readStep (withMeter draft) later nums dens bits ≡ takenBy (front draft meter nums dens bits) (I.MeterPoint bar num den)
-      go true t = rw t (rw (more, h (ltb-true (draft .meters) 256 t)))
-      go false t = rw t
+  meter-step later bar num den e h =
+      ap (λ (s : Step). readStep s later nums dens bits) e
+      ∙ by-flag (ltb (draft .meters) 256) (λ t. rw t (rw (mul-add 3 (draft .meters) 1, h (ltb-true (draft .meters) 256 t)))) (λ t. rw t)
 
   pub point-step : (numbers : List ℤ) (denoms bpms : List ℕ) (beat : Beat) (bpm : ℕ) {step : Step} → step ≡ withPoint draft
       → (draft .tempos < 1024 → Behind (draft .tempos) (beat .num ∷ []) nums numbers × Behind (draft .tempos) (beat .den ∷ []) dens denoms
       × Behind (draft .tempos) (bpm ∷ []) bits bpms)
       → readStep step meter numbers denoms bpms ≡ takenBy (front draft meter nums dens bits) (I.TempoPoint beat bpm)
   unfolding readStep takenBy pointed front withPoint moreTempos
-  point-step numbers denoms bpms beat bpm e h = ap (λ (s : Step). readStep s meter numbers denoms bpms) e ∙ go (ltb (draft .tempos) 1024) refl
-    where
-      go : (b : Bool) → ltb (draft .tempos) 1024 ≡ b
-          → readStep (withPoint draft) meter numbers denoms bpms ≡ takenBy (front draft meter nums dens bits) (I.TempoPoint beat bpm)
-      go true t = let p = h (ltb-true (draft .tempos) 1024 t) in rw t (rw (p .0, p .1, p .2))
-      go false t = rw t
+  point-step numbers denoms bpms beat bpm e h =
+      ap (λ (s : Step). readStep s meter numbers denoms bpms) e
+      ∙ by-flag (ltb (draft .tempos) 1024) (λ t. let p = h (ltb-true (draft .tempos) 1024 t) in rw t (rw (p .0, p .1, p .2))) (λ t. rw t)
 
 -- ---- any line
 
