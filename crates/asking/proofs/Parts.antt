@@ -2,12 +2,13 @@
 use mathlib.Core.Path.{_≡_, refl, sym, ap, _∙_}
 use mathlib.Core.Bool.{Bool, true, false, cond}
 use mathlib.Core.List.{List, []}
-use Prim.Native.Nat.{ℕ, _-_, _<_, _≤_, min}
+use Prim.Native.Nat.{ℕ, _-_, _<_, min}
 use native.Mathlib.Omega.{arith}
-use borrow.Author.Tests.{ltb-true, ltb-false}
 use lib.Dec.{ltb}
 use lib.ListN.{length, take, drop}
 use lib.Seq.{take-all}
+use native.Mathlib.Nat.{le-of-lt, min-eq-left}
+use Rattle.numbers.proofs.Laws.{by-order}
 use Rattle.asking.specs.Lists.{partOf}
 
 pub none-before : (q : List ℕ) (a e : ℕ) → e < a → [] ≡ partOf q a e
@@ -19,13 +20,6 @@ none-before q a e h = go (ltb (length q) e)
 
 -- of a list that has fewer than n elements the first n are all
 pub front : {A : Type 0} (xs : List A) (n e : ℕ) → e ≡ min n (length xs) → take e xs ≡ take n xs
-front xs n e h = go (ltb (length xs) n) refl
-  where
-    go : (t : Bool) → ltb (length xs) n ≡ t → take e xs ≡ take n xs
-    go true p =
-        let past : length xs < n = ltb-true (length xs) n p in
-        take-all e xs (omega arith) ∙ sym (take-all n xs (omega arith))
-    go false p =
-        let within : n ≤ length xs = ltb-false (length xs) n p in
-        let same : e ≡ n = omega arith in
-        ap (λ (k : ℕ). take k xs) same
+front xs n e h =
+    by-order (length xs) n (λ past. take-all e xs (omega arith) ∙ sym (take-all n xs (le-of-lt past)))
+    (λ within. ap (λ (k : ℕ). take k xs) (h ∙ min-eq-left within))
