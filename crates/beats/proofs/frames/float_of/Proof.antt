@@ -1,4 +1,7 @@
 -- The numerator comes through the machine's bits unchanged.
+use mathlib.Core.Path.{ap, _∙_}
+use lib.IntN.{ℤ, pos}
+use lib.Ieee.{Float, binary64, div, ofInt}
 use mir.Syntax.{w64}
 use mir.ValLaws.{toZ-ofZ}
 use borrow.Author.Needs.{needs}
@@ -14,7 +17,9 @@ int-to-float-result c = search needs
 returns : tie.Need-returns
 returns c =
     let t = c .before .before in
-    cc (toZ-ofZ w64 (t .before .args .beat .num) (record { sfits = t .struct-told .given .0 .1 }))
+    let b = t .before .args .beat in
+    let back = toZ-ofZ w64 (b .num) (record { sfits = t .struct-told .given .0 .1 }) in
+    ap (λ (x : Float). div binary64 x (ofInt binary64 (pos (b .den)))) (c .before .float-near .ensures ∙ ap (λ (n : ℤ). ofInt binary64 n) back)
 
 pub float-of-spec : {M : Type 1} → statement M
 float-of-spec = tie.close (tie.spec float-near-requires int-to-float-result returns)

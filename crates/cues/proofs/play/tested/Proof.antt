@@ -15,7 +15,7 @@ same-length : tie.Need-same-length
 same-length c = search needs
 
 returns : tie.Need-returns
-returns c = search needs
+returns c = c .before .before .played .ensures
 
 returns-2 : tie.Need-returns-2
 returns-2 c =

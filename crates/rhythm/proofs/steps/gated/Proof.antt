@@ -1,8 +1,7 @@
 -- The rounded length, or 1.
-use mathlib.Core.Path.{_≡_, ap, _∙_}
+use mathlib.Core.Path.{ap, _∙_}
 use Prim.Native.Nat.{ℕ, max}
-use lib.Ieee.{binary32, mul, ofInt, toUnsigned}
-use lib.IntN.{pos}
+use lib.Ieee.{Float, binary32, mul, toUnsigned}
 use borrow.Author.Needs.{needs}
 use Rattle.rounding.specs.Floats.{roundAway}
 use Rattle.rhythm.proofs.steps.gated.Tie as tie
@@ -20,7 +19,7 @@ larger-requires c κs = search needs
 returns : tie.Need-returns
 returns c =
     let a = c .before .before .before .args in
-    let e : c .before .round-to-u32 .result ≡ toUnsigned 32 (roundAway (mul binary32 (ofInt binary32 (pos (a .len))) (a .factor))) = cc in
+    let e = c .before .round-to-u32 .ensures ∙ ap (λ (x : Float). toUnsigned 32 (roundAway (mul binary32 x (a .factor)))) (c .before .before .nearest-u32-to-f32 .ensures) in
     c .larger .ensures ∙ ap (λ (k : ℕ). max k 1) e
 
 pub gated-spec : {M : Type 1} → statement M

@@ -1,8 +1,8 @@
 -- The calls one after the other; 0.0 and 1.0 are their bits.
-use mathlib.Core.Path.{_≡_, refl}
-use lib.Ieee.{binary32, ofBits}
+use mathlib.Core.Path.{_≡_, refl, ap, _∙_}
+use lib.Ieee.{binary32, mul, ofBits, toBits}
 use borrow.Author.Needs.{needs}
-use Rattle.rounding.specs.Floats.{float0, float1}
+use Rattle.rounding.specs.Floats.{clamp, float0, float1}
 use Rattle.rhythm.specs.Values.{scaledGain}
 use Rattle.rhythm.proofs.steps.scaled.Tie as tie
 use Rattle.rhythm.proofs.steps.scaled.Statement.{statement}
@@ -26,7 +26,11 @@ f32-word-requires c κs = search needs
 
 returns : tie.Need-returns
 unfolding scaledGain
-returns c = cc (zero-bits, one-bits)
+returns c =
+    let a = c .before .before .before .args in
+    let f = c .before .before .f32-of .ensures in
+    c .f32-word .ensures
+    ∙ ap (toBits binary32) (c .before .clamp-f32 .ensures ∙ (λ i. clamp (mul binary32 (f i) (a .scale)) (zero-bits i) (one-bits i)))
 
 pub scaled-spec : {M : Type 1} → statement M
 scaled-spec = tie.close (tie.spec f32-of-requires clamp-f32-requires f32-word-requires returns)
