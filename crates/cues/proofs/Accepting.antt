@@ -1,6 +1,6 @@
 -- Where there is room for the cues of the whole run no call of a block is refused, since a block has no more of them.
 use mathlib.Core.Path.{_≡_, refl, sym, ap, _∙_}
-use mathlib.Core.Bool.{Bool, true, false, _&&_}
+use mathlib.Core.Bool.{true, _&&_}
 use mathlib.Core.List.{List, [], _∷_, map}
 use Prim.Native.Nat.{ℕ, _+_, _-_, _/_, _≤_, _^_}
 use native.Mathlib.Omega.{arith}
@@ -8,13 +8,13 @@ use borrow.Author.Tests.{leb-true, le-leb}
 use lib.Dec.{leb}
 use lib.ListN.{length, length-append}
 use Rattle.numbers.specs.Answers.{Answer, accepted}
-use Rattle.numbers.proofs.Laws.{and-left, and-right}
+use Rattle.numbers.proofs.Laws.{and-left, and-right, by-flag}
 use Rattle.transport.specs.declared.Transport.{Transport}
 use Rattle.transport.specs.Transports.{sound, playing}
 use Rattle.transport.specs.Advances.{advanced}
 use Rattle.lines.specs.Lines.{linesAnswer}
 use Rattle.cues.specs.Sounding.{cues, later}
-use Rattle.cues.specs.CueCall.{cueTest, movedBy, handedBy}
+use Rattle.cues.specs.CueCall.{movedBy, handedBy}
 use Rattle.cues.specs.Promise.{Block, isAccepted, answerTo, next, allAccepted, framesIn, allRoom, Accepting, Promised}
 use Rattle.cues.proofs.Sounding.{cues-on, length-later}
 use Rattle.cues.proofs.Answering.{past-lines}
@@ -24,13 +24,11 @@ module _ (lines : List ℕ) (fine : linesAnswer lines ≡ accepted tt) where
   one-accepted : (t : Transport) (block : Block) → sound t ≡ true → t .position + block .frames ≤ 2 ^ 64 - 1 → length (cues lines t (block .frames)) ≤ length (block .out) / 2
       → isAccepted (answerTo lines t block .answer) ≡ true
   one-accepted t block is h room =
-      ap (λ (a : Answer Unit). isAccepted (handedBy t a (movedBy (advanced t (block .frames)) (length (cues lines t (block .frames)))) .answer)) (by-state (playing (t .state)) refl)
-    where
-      by-state : (q : Bool) → playing (t .state) ≡ q → cueTest t lines (block .frames) (block .out) ≡ accepted tt
-      by-state true p =
-          past-lines t lines (block .frames) (block .out) is (sym fine)
-          ∙ simp (p, le-leb (t .position + block .frames) (2 ^ 64 - 1) h, le-leb (length (cues lines t (block .frames))) (length (block .out) / 2) room)
-      by-state false p = past-lines t lines (block .frames) (block .out) is (sym fine) ∙ simp p
+      ap (λ (a : Answer Unit). isAccepted (handedBy t a (movedBy (advanced t (block .frames)) (length (cues lines t (block .frames)))) .answer))
+      (past-lines t lines (block .frames) (block .out) is (sym fine)
+      ∙ by-flag (playing (t .state))
+      (λ p. simp (p, le-leb (t .position + block .frames) (2 ^ 64 - 1) h, le-leb (length (cues lines t (block .frames))) (length (block .out) / 2) room))
+      (λ p. simp p))
 
   -- the cues of a run are those of its two parts
   count-on : (t : Transport) (a b : ℕ) → sound t ≡ true → t .position + (a + b) ≤ 2 ^ 64 - 1

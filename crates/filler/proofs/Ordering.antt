@@ -128,32 +128,28 @@ module _ (a b : Beat) (p : Placed exactly a) (q : Placed exactly b) where
 -- ---- which beats are
 
 module _ (most : ℕ) (a : Beat) (d : 0 < a .den) (s : smallBeat most a ≡ true) where
-  placed-pos : (n : ℕ) → a .num ≡ pos n → Placed most a
-  placed-pos n e =
-      record {
+  placed-unless : ((n : ℕ) → a .num ≡ negsuc n → ⊥) → Placed most a
+  placed-unless never = go (a .num) refl
+    where
+      go : (z : ℤ) → a .num ≡ z → Placed most a
+      go (pos n) e = record {
         size = n;
         is = e;
         small = leb-true n most (ap (λ (z : ℤ). leZ z (pos most)) (sym e) ∙ and-left (leZ (a .num) (pos most)) (leb (a .den) 4294967295) s);
         above = d;
         narrow = le-trans (leb-true (a .den) 4294967295 (and-right (leZ (a .num) (pos most)) (leb (a .den) 4294967295) s)) (lit≤ tt);
       }
+      go (negsuc n) e = absurd (never n e)
 
   -- one that is not below 0
   pub placed-zero : belowBeat a (wholeBeat (pos 0)) ≡ false → Placed most a
-  placed-zero h = go (a .num) refl
-    where
-      go : (z : ℤ) → a .num ≡ z → Placed most a
-      go (pos n) e = placed-pos n e
-      go (negsuc n) e =
-          absurd (subst T (ap (λ (z : ℤ). ltZ (z *ℤ pos 1) (pos 0 *ℤ pos (a .den))) (sym e) ∙ h)
-          (parts-lt (negsuc n *ℤ pos 1) (pos 0 *ℤ pos (a .den)) (omega (arith, up-times (negsuc n) 1, down-times (negsuc n) 1, up-times (pos 0) (a .den), down-times (pos 0) (a .den)))))
+  placed-zero h =
+      placed-unless (λ n e. subst T (ap (λ (z : ℤ). ltZ (z *ℤ pos 1) (pos 0 *ℤ pos (a .den))) (sym e) ∙ h)
+      (parts-lt (negsuc n *ℤ pos 1) (pos 0 *ℤ pos (a .den)) (omega (arith, up-times (negsuc n) 1, down-times (negsuc n) 1, up-times (pos 0) (a .den), down-times (pos 0) (a .den)))))
 
   -- one that is above such a beat
   pub placed-after : (b : Beat) → Placed most b → belowBeat b a ≡ true → Placed most a
-  placed-after b p h = go (a .num) refl
-    where
-      go : (z : ℤ) → a .num ≡ z → Placed most a
-      go (pos n) e = placed-pos n e
-      go (negsuc n) e =
-          let l = lt-parts (pos (p .size) *ℤ pos (a .den)) (negsuc n *ℤ pos (b .den)) (subst T (sym (sym (λ i. ltZ (p .is i *ℤ pos (a .den)) (e i *ℤ pos (b .den))) ∙ h)) tt) in
-          absurd (omega (arith, l, up-times (negsuc n) (b .den), down-times (pos (p .size)) (a .den)))
+  placed-after b p h =
+      placed-unless (λ n e.
+      let l = lt-parts (pos (p .size) *ℤ pos (a .den)) (negsuc n *ℤ pos (b .den)) (subst T (sym (sym (λ i. ltZ (p .is i *ℤ pos (a .den)) (e i *ℤ pos (b .den))) ∙ h)) tt) in
+      omega (arith, l, up-times (negsuc n) (b .den), down-times (pos (p .size)) (a .den)))

@@ -2,7 +2,7 @@
 use mathlib.Core.Path.{_≡_, refl, sym, ap, _∙_}
 use mathlib.Core.Bool.{Bool, true, false}
 use Prim.Native.Nat.{ℕ, zero, suc, _+_, _-_, _*_, _/_, _<_, _≤_, _^_}
-use native.Mathlib.Nat.{pow-succ', le-mul-of-pos-right, pow-zero, zero-lt-suc, zero-mul}
+use native.Mathlib.Nat.{pow-succ', le-mul-of-pos-right, pow-zero, zero-lt-suc, zero-mul, mul-assoc}
 use native.Mathlib.Omega.{arith}
 use lib.Pow.{pow-pos}
 use borrow.Author.Tests.{lt-ltb, le-ltb}
@@ -77,10 +77,7 @@ module _ (test : ℕ → Bool) where
   doubled-first = (31, (refl, refl))
 
   pub doubled-pos : (upper : Upper) (hi : ℕ) → Doubled upper hi → 0 < hi
-  doubled-pos upper zero d = let z : _≡_ {A = ℕ} 0 2147483648 = sym (zero-mul (2 ^ d .0)) ∙ d .1 .0 in absurd (no z)
-    where
-      no : _≡_ {A = ℕ} 0 2147483648 → ⊥
-      no z = omega arith
+  doubled-pos upper zero d = let z : _≡_ {A = ℕ} 0 2147483648 = sym (zero-mul (2 ^ d .0)) ∙ d .1 .0 in absurd (omega arith)
   doubled-pos upper (suc hi) d = zero-lt-suc hi
 
   pub doubled-ends : (upper : Upper) (hi : ℕ) → Doubled upper hi → test hi ≡ true → Bar hi ≡ upper
@@ -104,10 +101,7 @@ module _ (test : ℕ → Bool) where
     where
       by-tries : (tries : ℕ) → hi * 2 ^ tries ≡ 2147483648 → doubling test (suc tries) hi ≡ upper → Doubled upper (hi * 2)
       by-tries zero e q = let z : ⊥ = omega (arith, ap (λ (n : ℕ). hi * n) (pow-zero 2)) in absurd z
-      by-tries (suc tries) e q = (tries, (times hi tries e, sym (doubling-more (suc tries) hi t) ∙ q))
-        where
-          times : (n k : ℕ) → n * 2 ^ suc k ≡ 2147483648 → n * 2 * 2 ^ k ≡ 2147483648
-          times n k w = omega (arith, ap (λ (y : ℕ). n * y) (pow-succ' 2 k))
+      by-tries (suc tries) e q = (tries, (mul-assoc hi 2 (2 ^ tries) ∙ ap (λ (n : ℕ). hi * n) (sym (pow-succ' 2 tries)) ∙ e, sym (doubling-more (suc tries) hi t) ∙ q))
 
   -- ---- the first bar that passes
 

@@ -1,9 +1,8 @@
 -- What a caller may lean on, each law in one place: of rounding, of casts at another width or sign, of flooring, of picks and of words.
 use mathlib.Core.Path.{_≡_, refl, sym, _∙_}
-use mathlib.Core.Bool.{Bool, false}
-use Prim.Native.Nat.{ℕ, _+_, _-_, _*_, _/_, _^_, _<_, min}
-use lib.IntN.{ℤ}
-use lib.Ieee.{Float, nan, fin, Format, up, down, hid, lt, ofBits, toBits, toUnsigned, toSigned}
+use mathlib.Core.Bool.{false}
+use Prim.Native.Nat.{ℕ, _+_, _/_, _<_}
+use lib.Ieee.{Float, nan, Format, hid, lt, ofBits, toBits, toUnsigned}
 use Rattle.rounding.specs.Floats.{roundAway, maximum, clamp, float0}
 use Rattle.rounding.proofs.Nearest as by-nearest
 pub use Rattle.rounding.proofs.Nearest.{Nearest}
@@ -20,6 +19,10 @@ pub use Rattle.rounding.proofs.Upward.{Up, up-right, up-trans, le→up,
 pub use Rattle.rounding.proofs.Quotients.{quotient-is}
 -- half up is the nearest whole number, a half going up
 pub use Rattle.rounding.proofs.Nearest.{nearest}
+-- a number that is not negative goes to the nearest whole number, stopped at the end of any width
+pub use Rattle.rounding.proofs.Nearest.{round-unsigned}
+-- a number of either sign goes to the whole number nearest to its size, with its sign: halves away from zero
+pub use Rattle.rounding.proofs.Nearest.{round-signed}
 -- rounding never falls as its number rises
 pub use Rattle.rounding.proofs.Nearest.{round-rises}
 -- `x.max(0.0)` before a cast to an unsigned integer changes nothing
@@ -44,14 +47,6 @@ pub use Rattle.rounding.proofs.Picks.{clamp-within}
 -- one number alone is the nearest
 pub nearest-one : (n d j k : ℕ) → Nearest n d j → Nearest n d k → j ≡ k
 nearest-one n d j k g h = sym (by-nearest.nearest-is n d j g) ∙ by-nearest.nearest-is n d k h
-
--- a number that is not negative goes to the nearest whole number, stopped at the end of any width
-pub round-unsigned : (w m : ℕ) (e : ℤ) (k : ℕ) → Nearest (m * up e) (down e) k → toUnsigned w (roundAway (fin false m e)) ≡ min k (2 ^ w - 1)
-round-unsigned w m e k h = by-nearest.nearest-unsigned m e k h w
-
--- a number of either sign goes to the whole number nearest to its size, with its sign: halves away from zero
-pub round-signed : (h : ℕ) (s : Bool) (m : ℕ) (e : ℤ) (k : ℕ) → Nearest (m * up e) (down e) k → toSigned h (roundAway (fin s m e)) ≡ stopped h s k
-round-signed h s m e k near = by-nearest.nearest-signed m e k near h s
 
 -- at w = 64 `x.round().max(0.0) as u64` is what `round_to_u64` answers
 pub round-max-zero : (w : ℕ) (x : Float) → toUnsigned w (maximum (roundAway x) float0) ≡ toUnsigned w (roundAway x)

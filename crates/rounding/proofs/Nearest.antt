@@ -38,14 +38,13 @@ nearest-is n d k h = div-eq-of-lt-le (2 * d) (le-trans (le-of-eq (swap k d)) (h 
 cast-of : (n : ℕ) → n * 1 / 1 ≡ n
 cast-of n = div-one (n * 1) ∙ mul-one n
 
-module _ (m : ℕ) (e : ℤ) (k : ℕ) (h : Nearest (m * up e) (down e) k) where
-  pub nearest-unsigned : (w : ℕ) → toUnsigned w (roundAway (fin false m e)) ≡ min k (2 ^ w - 1)
-  unfolding toUnsigned roundAway
-  nearest-unsigned w = ap (λ (j : ℕ). min j (2 ^ w - 1)) (cast-of (halfUp (m * up e) (down e)) ∙ nearest-is (m * up e) (down e) k h)
+pub round-unsigned : (w m : ℕ) (e : ℤ) (k : ℕ) → Nearest (m * up e) (down e) k → toUnsigned w (roundAway (fin false m e)) ≡ min k (2 ^ w - 1)
+unfolding toUnsigned roundAway
+round-unsigned w m e k h = ap (λ (j : ℕ). min j (2 ^ w - 1)) (cast-of (halfUp (m * up e) (down e)) ∙ nearest-is (m * up e) (down e) k h)
 
-  pub nearest-signed : (b : ℕ) (s : Bool) → toSigned b (roundAway (fin s m e)) ≡ stopped b s k
-  unfolding toSigned roundAway
-  nearest-signed b s = ap (λ (j : ℕ). stopped b s j) (cast-of (halfUp (m * up e) (down e)) ∙ nearest-is (m * up e) (down e) k h)
+pub round-signed : (b : ℕ) (s : Bool) (m : ℕ) (e : ℤ) (k : ℕ) → Nearest (m * up e) (down e) k → toSigned b (roundAway (fin s m e)) ≡ stopped b s k
+unfolding toSigned roundAway
+round-signed b s m e k h = ap (λ (j : ℕ). stopped b s j) (cast-of (halfUp (m * up e) (down e)) ∙ nearest-is (m * up e) (down e) k h)
 
 -- ---- rising
 

@@ -1,16 +1,17 @@
 -- The parts of a signed number's and of a beat's text, and how long they are at most.
 use mathlib.Core.Path.{_≡_, refl, sym, ap, _∙_}
-use mathlib.Core.Bool.{Bool, true, false, cond}
+use mathlib.Core.Bool.{true, false, cond}
 use mathlib.Core.List.{[], _∷_, _++_, append-nil}
 use Prim.Native.Nat.{ℕ, zero, suc, _+_, _/_, _^_, _≤_, _<_}
 use native.Mathlib.Nat.{pow-suc}
 use native.Mathlib.Omega.{arith}
-use borrow.Author.Tests.{eq-eqb, ne-eqb, ltb-true, ltb-false}
-use lib.Dec.{ltb, eqb}
+use borrow.Author.Tests.{eq-eqb, ne-eqb}
+use lib.Dec.{eqb}
 use lib.IntN.{ℤ, pos, negsuc, natAbs}
 use lib.ListN.{length, length-append}
 use mir.Syntax.{w64}
 use mir.Val.{SFits}
+use Rattle.numbers.proofs.Laws.{by-order, by-flag}
 use Rattle.numbers.specs.Signs.{isNeg}
 use Rattle.beats.specs.declared.Beat.{Beat}
 use Rattle.text.specs.Texts.{decimal, signedText, beatText}
@@ -49,15 +50,11 @@ module _ (b : Beat) where
 -- a number below 10 ^ (k + 1) has at most k + 1 digits
 few-digits : (k n : ℕ) → n < 10 ^ suc k → length (decimal n) ≤ suc k
 few-digits zero n h = let e = digit-length n h in omega arith
-few-digits (suc k) n h = go (ltb n 10) refl (λ p. few-digits k (n / 10) p)
-  where
-    go : (b : Bool) → ltb n 10 ≡ b → (n / 10 < 10 ^ suc k → length (decimal (n / 10)) ≤ suc k) → length (decimal n) ≤ suc (suc k)
-    go true e r = let d = digit-length n (ltb-true n 10 e) in omega arith
-    go false e r =
-        let d = digits-length n (ltb-false n 10 e) in
-        let m = pow-suc 10 (suc k) in
-        let i = r (omega arith) in
-        omega arith
+few-digits (suc k) n h =
+    by-order n 10 (λ l. omega (arith, digit-length n l))
+    (λ l.
+    let m = pow-suc 10 (suc k) in
+    omega (arith, digits-length n l, few-digits k (n / 10) (omega arith)))
 
 pub digits64 : (n : ℕ) → n < 2 ^ 64 → length (decimal n) ≤ 20
 digits64 n h = few-digits 19 n (omega arith)
@@ -72,9 +69,7 @@ signed-short (negsuc n) f = let d = few-digits 18 (suc n) (omega (arith, f .sfit
 
 pub beat-short : (b : Beat) → SFits w64 (b .num) → b .den < 2 ^ 32 → length (beatText b) ≤ 31
 unfolding beatText
-beat-short b f h = go (eqb (b .den) 1) (signed-short (b .num) f) (digits32 (b .den) h)
-  where
-    go : (t : Bool) → length (signedText (b .num)) ≤ 20 → length (decimal (b .den)) ≤ 10
-        → length (signedText (b .num) ++ cond t [] (47 ∷ decimal (b .den))) ≤ 31
-    go true s d = simp length-append (omega arith)
-    go false s d = simp length-append (omega arith)
+beat-short b f h =
+    let s = signed-short (b .num) f in
+    let d = digits32 (b .den) h in
+    by-flag (eqb (b .den) 1) (λ e. simp (e, length-append) (omega arith)) (λ e. simp (e, length-append) (omega arith))

@@ -1,6 +1,5 @@
 -- By the answer below: the number, and the word that it gives.
 use mathlib.Core.Path.{_≡_, ap, _∙_}
-use Prim.Native.Nat.{ℕ}
 use Rattle.meter.specs.Readings.{readCount}
 use Rattle.stand.specs.Calls.{counted}
 use Rattle.stand.proofs.Answers.{number-accepted, number-refused, gave, kept}
@@ -41,24 +40,16 @@ enum-told-3 : tie.Need-enum-told-3
 enum-told-3 c = search needs
 
 returns : tie.Need-returns
-returns c =
-    let e = answer (c .before .before .before) ∙ ap readCount (c .before .n .given .1) in
-    (number-accepted e, gave (λ (n : ℕ). n) (c .before .before .before .before .before .before .args .bars .now) e)
+returns c = let e = answer (c .before .before .before) ∙ ap readCount (c .before .n .given .1) in (number-accepted e, gave _ _ e)
 
 returns-2 : tie.Need-returns-2
-returns-2 c =
-    let e = answer (c .before .before) ∙ ap readCount (c .enum-told .given .1) in
-    (number-refused e, kept (λ (n : ℕ). n) (c .before .before .before .before .before .args .bars .now) e)
+returns-2 c = let e = answer (c .before .before) ∙ ap readCount (c .enum-told .given .1) in (number-refused e, kept _ _ e)
 
 returns-3 : tie.Need-returns-3
-returns-3 c =
-    let e = answer (c .before .before) ∙ ap readCount (c .enum-told2 .given .1) in
-    (number-refused e, kept (λ (n : ℕ). n) (c .before .before .before .before .before .args .bars .now) e)
+returns-3 c = let e = answer (c .before .before) ∙ ap readCount (c .enum-told2 .given .1) in (number-refused e, kept _ _ e)
 
 returns-4 : tie.Need-returns-4
-returns-4 c =
-    let e = answer (c .before .before) ∙ ap readCount (c .enum-told3 .given .1) in
-    (number-refused e, kept (λ (n : ℕ). n) (c .before .before .before .before .before .args .bars .now) e)
+returns-4 c = let e = answer (c .before .before) ∙ ap readCount (c .enum-told3 .given .1) in (number-refused e, kept _ _ e)
 
 pub pulleybale-count-spec : {M : Type 1} → statement M
 pulleybale-count-spec =

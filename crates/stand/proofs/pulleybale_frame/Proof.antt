@@ -1,6 +1,5 @@
 -- By the answer below: the number, and the word that it gives.
 use mathlib.Core.Path.{_≡_, ap, _∙_}
-use Prim.Native.Nat.{ℕ}
 use Rattle.timeline.specs.Readings.{readFrame}
 use Rattle.stand.specs.Calls.{framed}
 use Rattle.stand.proofs.Answers.{number-accepted, number-refused, gave, kept}
@@ -40,19 +39,13 @@ enum-told : tie.Need-enum-told
 enum-told c = search needs
 
 returns : tie.Need-returns
-returns c =
-    let e = answer (c .before .before .before) ∙ ap readFrame (c .before .x .given .1) in
-    (number-accepted e, gave (λ (x : ℕ). x) (c .before .before .before .before .before .before .before .before .args .frame .now) e)
+returns c = let e = answer (c .before .before .before) ∙ ap readFrame (c .before .x .given .1) in (number-accepted e, gave _ _ e)
 
 returns-2 : tie.Need-returns-2
-returns-2 c =
-    let e = answer (c .before .before .before .before) ∙ ap readFrame (c .before .before .why .given .1) in
-    (c .number-of .ensures ∙ number-refused e, kept (λ (x : ℕ). x) (c .before .before .before .before .before .before .before .before .before .args .frame .now) e)
+returns-2 c = let e = answer (c .before .before .before .before) ∙ ap readFrame (c .before .before .why .given .1) in (c .number-of .ensures ∙ number-refused e, kept _ _ e)
 
 returns-3 : tie.Need-returns-3
-returns-3 c =
-    let e = answer (c .before .before) ∙ ap readFrame (c .enum-told .given .1) in
-    (number-refused e, kept (λ (x : ℕ). x) (c .before .before .before .before .before .before .before .args .frame .now) e)
+returns-3 c = let e = answer (c .before .before) ∙ ap readFrame (c .enum-told .given .1) in (number-refused e, kept _ _ e)
 
 pub pulleybale-frame-spec : {M : Type 1} → statement M
 pulleybale-frame-spec =

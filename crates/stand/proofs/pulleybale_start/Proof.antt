@@ -2,7 +2,6 @@
 use mathlib.Core.Path.{_≡_, ap, _∙_}
 use mir.Syntax.{w64}
 use mir.ValLaws.{toZ-ofZ}
-use Rattle.beats.specs.declared.Beat.{Beat}
 use Rattle.meter.specs.Readings.{readBar}
 use Rattle.stand.specs.Calls.{started}
 use Rattle.stand.proofs.Answers.{number-accepted, number-refused, gave, kept}
@@ -45,31 +44,18 @@ returns : tie.Need-returns
 returns c =
     let found = c .before .before in
     let r = found .before .before in
-    let a = start r .args in
     let e = answer r ∙ ap readBar (found .beat .given .1) in
     let whole = toZ-ofZ w64 (found .beat .given .0 .0 .num) (record { sfits = c .struct-told .given .0 .1 }) in
-    (number-accepted e, (whole ∙ gave (λ (beat : Beat). beat .num) (a .num .now) e, gave (λ (beat : Beat). beat .den) (a .den .now) e))
+    (number-accepted e, (whole ∙ gave _ _ e, gave _ _ e))
 
 returns-2 : tie.Need-returns-2
-returns-2 c =
-    let r = c .before .before in
-    let a = start r .args in
-    let e = answer r ∙ ap readBar (c .enum-told .given .1) in
-    (number-refused e, (kept (λ (beat : Beat). beat .num) (a .num .now) e, kept (λ (beat : Beat). beat .den) (a .den .now) e))
+returns-2 c = let e = answer (c .before .before) ∙ ap readBar (c .enum-told .given .1) in (number-refused e, (kept _ _ e, kept _ _ e))
 
 returns-3 : tie.Need-returns-3
-returns-3 c =
-    let r = c .before .before in
-    let a = start r .args in
-    let e = answer r ∙ ap readBar (c .enum-told2 .given .1) in
-    (number-refused e, (kept (λ (beat : Beat). beat .num) (a .num .now) e, kept (λ (beat : Beat). beat .den) (a .den .now) e))
+returns-3 c = let e = answer (c .before .before) ∙ ap readBar (c .enum-told2 .given .1) in (number-refused e, (kept _ _ e, kept _ _ e))
 
 returns-4 : tie.Need-returns-4
-returns-4 c =
-    let r = c .before .before in
-    let a = start r .args in
-    let e = answer r ∙ ap readBar (c .enum-told3 .given .1) in
-    (number-refused e, (kept (λ (beat : Beat). beat .num) (a .num .now) e, kept (λ (beat : Beat). beat .den) (a .den .now) e))
+returns-4 c = let e = answer (c .before .before) ∙ ap readBar (c .enum-told3 .given .1) in (number-refused e, (kept _ _ e, kept _ _ e))
 
 pub pulleybale-start-spec : {M : Type 1} → statement M
 pulleybale-start-spec =

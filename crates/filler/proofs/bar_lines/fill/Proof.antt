@@ -1,6 +1,6 @@
 -- The loop keeps both carried states, so that each line is that of its bar asked by itself.
 use mathlib.Core.Path.{_∙_, ap}
-use Prim.Native.Nat.{_-_}
+use Prim.Native.Nat.{_-_, _<_}
 use native.Mathlib.Omega.{arith}
 use lib.ListN.{length}
 use borrow.Author.Needs.{needs}
@@ -34,8 +34,14 @@ loop-holds c =
     let a = s .args in
     filled-none (a .t) (now (a .words)) (now (a .nums)) (now (a .dens)) (now (a .tempos)) (length (now (a .out))) _ _ _ _ (c .before .before .before .before .mark .ensures) (c .before .«open» .ensures) (c .begin .ensures)
 
+-- the lines are few
+few : (c : tie.In-loop Inv-loop μ-loop) → c .before .loop .k < 65536
+few c =
+    let m = c .before .before .before .before .before .before in
+    omega (arith, m .before .before .before .before .before .before .pre .1, c .before .loop .inv .long, m .mark .ensures .long, c .loop-test .taken)
+
 cast-bar : tie.Need-cast-bar Inv-loop μ-loop
-cast-bar c = omega (arith, c .before .before .before .before .before .before .before .before .before .before .before .before .pre .1, c .before .loop .inv .long, c .before .before .before .before .before .before .mark .ensures .long)
+cast-bar c = omega (arith, few c)
 
 mul-on-to : tie.Need-mul-on-to Inv-loop μ-loop
 mul-on-to c = search needs
@@ -62,23 +68,13 @@ frame-at-requires : tie.Need-frame-at-requires Inv-loop μ-loop
 frame-at-requires c κs = (c .before .before .before .before .before .before .before .before .before .before .before .before .before .before .before .before .before .pre .0, c .go-to .ensures)
 
 mul-out : tie.Need-mul-out Inv-loop μ-loop
-mul-out c =
-    let turn = c .before .before .before .before .before .before in
-    let l = turn .before in
-    let m = l .before .before .before .before .before in
-    let s = m .before .before .before .before .before .before in
-    omega (arith, s .pre .1, l .loop .inv .long, m .mark .ensures .long, turn .loop-test .taken)
+mul-out c = omega (arith, few (c .before .before .before .before .before .before))
 
 slice-write-out : tie.Need-slice-write-out Inv-loop μ-loop
 slice-write-out c = search needs
 
 add-k : tie.Need-add-k Inv-loop μ-loop
-add-k c =
-    let turn = c .before .before .before .before .before .before in
-    let l = turn .before in
-    let m = l .before .before .before .before .before in
-    let s = m .before .before .before .before .before .before in
-    omega (arith, s .pre .1, l .loop .inv .long, m .mark .ensures .long, turn .loop-test .taken)
+add-k c = omega (arith, few (c .before .before .before .before .before .before))
 
 loop-less : tie.Need-loop-less Inv-loop μ-loop
 loop-less c = omega (arith, c .before .before .before .before .before .before .before .loop .inv .long, c .before .before .before .before .before .before .loop-test .taken)
