@@ -14,7 +14,7 @@ use Rattle.transport.specs.Transports.{sound, playing}
 use Rattle.transport.specs.Advances.{advanced}
 use Rattle.lines.specs.Lines.{linesAnswer}
 use Rattle.cues.specs.Sounding.{cues, later}
-use Rattle.cues.specs.CueCall.{movedBy, handedBy}
+use Rattle.cues.specs.CueCall.{cueTest, movedBy, handedBy}
 use Rattle.cues.specs.Promise.{Block, isAccepted, answerTo, next, allAccepted, framesIn, allRoom, Accepting, Promised}
 use Rattle.cues.proofs.Sounding.{cues-on, length-later}
 use Rattle.cues.proofs.Answering.{past-lines}
@@ -24,11 +24,12 @@ module _ (lines : List ℕ) (fine : linesAnswer lines ≡ accepted tt) where
   one-accepted : (t : Transport) (block : Block) → sound t ≡ true → t .position + block .frames ≤ 2 ^ 64 - 1 → length (cues lines t (block .frames)) ≤ length (block .out) / 2
       → isAccepted (answerTo lines t block .answer) ≡ true
   one-accepted t block is h room =
-      ap (λ (a : Answer Unit). isAccepted (handedBy t a (movedBy (advanced t (block .frames)) (length (cues lines t (block .frames)))) .answer))
-      (past-lines t lines (block .frames) (block .out) is (sym fine)
+      let passes : cueTest t lines (block .frames) (block .out) ≡ accepted tt =
+      past-lines t lines (block .frames) (block .out) is (sym fine)
       ∙ by-flag (playing (t .state))
-      (λ p. simp (p, le-leb (t .position + block .frames) (2 ^ 64 - 1) h, le-leb (length (cues lines t (block .frames))) (length (block .out) / 2) room))
-      (λ p. simp p))
+      (λ p. simp (p, le-leb (t .position + block .frames) (2 ^ 64 - 1) h, le-leb (length (cues lines t (block .frames))) (length (block .out) / 2) room)) (λ p. simp p)
+      in
+      ap (λ (a : Answer Unit). isAccepted (handedBy t a (movedBy (advanced t (block .frames)) (length (cues lines t (block .frames)))) .answer)) passes
 
   -- the cues of a run are those of its two parts
   count-on : (t : Transport) (a b : ℕ) → sound t ≡ true → t .position + (a + b) ≤ 2 ^ 64 - 1
