@@ -11,7 +11,7 @@ use lib.Signed.{ltZ}
 use Rattle.numbers.specs.declared.exact.Order.{Order}
 use Rattle.numbers.specs.declared.exact.Order.the-variants.{Less, Equal, Greater}
 use Rattle.numbers.specs.Answers.{accepted}
-use Rattle.numbers.proofs.Laws.{by-flag, not-both, factor-zero, up, down, natural, up-times, down-times, sum-times, gcd-of-zero, isLess, less-is, turned}
+use Rattle.numbers.proofs.Laws.{cases, not-both, factor-zero, up, down, natural, up-times, down-times, sum-times, gcd-of-zero, isLess, less-is, turned}
 use Rattle.beats.specs.declared.Beat.{Beat}
 use Rattle.beats.specs.Beats.{newBeat, isBeat, wholeBeat}
 use Rattle.beats.specs.Sums.{fitted, addBeats, mulBeat, sumOf, orderOfBeats, belowBeat}
@@ -66,7 +66,7 @@ below-same a = sym (below-is a a) ∙ ap isLess (order-same a)
 
 -- where c is not below a, and a not below b, c is not below b
 pub not-below : (a b c : Beat) → isBeat a ≡ true → isBeat b ≡ true → isBeat c ≡ true → belowBeat c a ≡ false → belowBeat a b ≡ false → belowBeat c b ≡ false
-not-below a b c p q r s t = by-flag (belowBeat c b) (λ u. not-both (belowBeat c a) (by-case (orderOfBeats a b) refl u) s) (λ u. u)
+not-below a b c p q r s t = cases (belowBeat c b) (λ u. not-both (belowBeat c a) (by-case (orderOfBeats a b) refl u) s) (λ u. u)
   where
     by-case : (o : Order) → orderOfBeats a b ≡ o → belowBeat c b ≡ true → belowBeat c a ≡ true
     by-case Less e u = not-both (belowBeat a b) (sym (below-is a b) ∙ ap isLess e) t

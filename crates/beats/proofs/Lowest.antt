@@ -8,7 +8,7 @@ use lib.IntN.{ℤ, pos, negsuc, negℤ, natAbs, _*ℤ_}
 use lib.Signed.{quotZ}
 use Rattle.numbers.specs.Divisor.{gcdOf}
 use Rattle.numbers.specs.Signs.{isNeg, withSign}
-use Rattle.numbers.proofs.Laws.{gcd-left, gcd-right, gcd-pos, gcd-le, gcd-over, gcd-of-zero, euclid, same-den, same-num, abs-sign, sign-abs, abs-times, neg-times}
+use Rattle.numbers.proofs.Laws.{gcd-left, gcd-right, gcd-pos, gcd-le, gcd-over, gcd-of-zero, euclid, same-den, same-num, abs-sign, sign-abs, abs-times, neg-times, minus-times}
 use Rattle.beats.specs.declared.Beat.{Beat}
 use Rattle.beats.specs.Beats.{lowest, newBeat}
 
@@ -35,14 +35,10 @@ cross a d =
     ∙ sym (mul-assoc (a / g) (d / g) g) ∙ mul-right-comm (a / g) (d / g) g
     ∙ ap (λ (n : ℕ). n * (d / g)) (div-mul-cancel g (gcd-left a d))
 
-minus-times : (k d : ℕ) → negℤ (pos k) *ℤ pos d ≡ negℤ (pos (k * d))
-minus-times zero d = rw (zero-mul d)
-minus-times (suc k) d = refl
-
 pub same-value : (n : ℤ) (d : ℕ) → newBeat n d .num *ℤ pos (max d 1) ≡ n *ℤ pos (newBeat n d .den)
 unfolding newBeat lowest
 same-value (pos a) d = ap pos (cross a (max d 1))
-same-value (negsuc a) d = minus-times (suc a / gcdOf (suc a) (max d 1)) (max d 1) ∙ ap (λ (k : ℕ). negℤ (pos k)) (cross (suc a) (max d 1))
+same-value (negsuc a) d = minus-times (pos (suc a / gcdOf (suc a) (max d 1))) (max d 1) ∙ ap (λ (k : ℕ). negℤ (pos k)) (cross (suc a) (max d 1))
 
 -- ---- a beat in lowest terms stays as it is
 

@@ -8,7 +8,7 @@ use borrow.Author.Tests.{leb-true, le-leb}
 use lib.Dec.{leb}
 use lib.ListN.{length, length-append}
 use Rattle.numbers.specs.Answers.{Answer, accepted}
-use Rattle.numbers.proofs.Laws.{and-left, and-right, by-flag}
+use Rattle.numbers.proofs.Laws.{and-left, and-right, cases}
 use Rattle.transport.specs.declared.Transport.{Transport}
 use Rattle.transport.specs.Transports.{sound, playing}
 use Rattle.transport.specs.Advances.{advanced}
@@ -26,7 +26,7 @@ module _ (lines : List ℕ) (fine : linesAnswer lines ≡ accepted tt) where
   one-accepted t block is h room =
       let passes : cueTest t lines (block .frames) (block .out) ≡ accepted tt =
       past-lines t lines (block .frames) (block .out) is (sym fine)
-      ∙ by-flag (playing (t .state))
+      ∙ cases (playing (t .state))
       (λ p. simp (p, le-leb (t .position + block .frames) (2 ^ 64 - 1) h, le-leb (length (cues lines t (block .frames))) (length (block .out) / 2) room)) (λ p. simp p)
       in
       ap (λ (a : Answer Unit). isAccepted (handedBy t a (movedBy (advanced t (block .frames)) (length (cues lines t (block .frames)))) .answer)) passes

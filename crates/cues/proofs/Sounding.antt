@@ -8,7 +8,7 @@ use native.Mathlib.Nat.{add-zero, zero-add, add-suc}
 use native.Mathlib.Omega.{arith}
 use lib.Dec.{eqb}
 use lib.ListN.{length}
-use Rattle.numbers.proofs.Laws.{by-flag}
+use Rattle.numbers.proofs.Laws.{cases}
 use Rattle.transport.specs.declared.playhead.Run.{Run}
 use Rattle.transport.specs.declared.Transport.{Transport}
 use Rattle.transport.specs.Transports.{sound, playing}
@@ -40,7 +40,7 @@ module _ (t : Transport) (a b : ℕ) (h : t .position + (a + b) ≤ 2 ^ 64 - 1) 
 
   pub sounds-on : soundedAt t (a + b) ≡ soundedAt after b
   sounds-on =
-      by-flag (playing (t .state)) (λ p. sounds-playing t (a + b) p ∙ sounds-by (advanced t a .finished) refl p)
+      cases (playing (t .state)) (λ p. sounds-playing t (a + b) p ∙ sounds-by (advanced t a .finished) refl p)
       (λ p. sounds-none t (a + b) p ∙ sym (sounds-none after b (ap (λ (run : Run). playing (run .transport .state)) (stays-put t a p) ∙ p)))
 
 -- ---- cues, later

@@ -7,7 +7,7 @@ use native.Mathlib.Omega.{arith}
 use lib.Dec.{eqb}
 use lib.ListN.{length, getD}
 use borrow.Author.Tests.{eq-eqb, ne-eqb, eqb-true, eqb-false, lt-ltb, le-ltb}
-use Rattle.numbers.proofs.Laws.{by-order, by-flag}
+use Rattle.numbers.proofs.Laws.{by-order, cases}
 use Rattle.meter.specs.declared.MeterPoint.{MeterPoint}
 use Rattle.meter.specs.Meters.{pointsOf, lastAt, nearer, nextChange, fallback, meterAt}
 use Rattle.meter.proofs.Laws.{pointAt, left, points-step, points-end, nearer-above, nearer-else, later-in, later-out}
@@ -34,7 +34,7 @@ module _ (count : ℕ) (point : MeterPoint) (rest : List MeterPoint) (bar found 
   force-out h = rw (le-ltb (point .bar) bar h)
 
 pub by-bar : {A : Type 0} (a b : ℕ) → (a ≡ b → A) → ((a ≡ b → ⊥) → A) → A
-by-bar a b own other = by-flag (eqb a b) (λ e. own (eqb-true a b e)) (λ e. other (eqb-false a b e))
+by-bar a b own other = cases (eqb a b) (λ e. own (eqb-true a b e)) (λ e. other (eqb-false a b e))
 
 -- ---- where a bar has no mark
 

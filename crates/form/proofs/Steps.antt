@@ -7,7 +7,7 @@ use borrow.Author.Tests.{ltb-true}
 use lib.Dec.{ltb}
 use lib.IntN.{ℤ}
 use native.Mathlib.Nat.{mul-add}
-use Rattle.numbers.proofs.Laws.{by-flag}
+use Rattle.numbers.proofs.Laws.{cases}
 use Rattle.beats.specs.declared.Beat.{Beat}
 use Rattle.meter.specs.declared.Pickup.{Pickup}
 use Rattle.meter.specs.declared.Pickup.the-variants.{Absent, Present}
@@ -78,7 +78,7 @@ module _ (draft : Draft) (meter : List ℕ) (nums : List ℤ) (dens bits : List 
   unfolding readStep takenBy metered front withMeter moreMeters
   meter-step later bar num den e h =
       ap (λ (s : Step). readStep s later nums dens bits) e
-      ∙ by-flag (ltb (draft .meters) 256) (λ t. rw t (rw (mul-add 3 (draft .meters) 1, h (ltb-true (draft .meters) 256 t)))) (λ t. rw t)
+      ∙ cases (ltb (draft .meters) 256) (λ t. rw t (rw (mul-add 3 (draft .meters) 1, h (ltb-true (draft .meters) 256 t)))) (λ t. rw t)
 
   pub point-step : (numbers : List ℤ) (denoms bpms : List ℕ) (beat : Beat) (bpm : ℕ) {step : Step} → step ≡ withPoint draft
       → (draft .tempos < 1024 → Behind (draft .tempos) (beat .num ∷ []) nums numbers × Behind (draft .tempos) (beat .den ∷ []) dens denoms
@@ -87,7 +87,7 @@ module _ (draft : Draft) (meter : List ℕ) (nums : List ℤ) (dens bits : List 
   unfolding readStep takenBy pointed front withPoint moreTempos
   point-step numbers denoms bpms beat bpm e h =
       ap (λ (s : Step). readStep s meter numbers denoms bpms) e
-      ∙ by-flag (ltb (draft .tempos) 1024) (λ t. let p = h (ltb-true (draft .tempos) 1024 t) in rw t (rw (p .0, p .1, p .2))) (λ t. rw t)
+      ∙ cases (ltb (draft .tempos) 1024) (λ t. let p = h (ltb-true (draft .tempos) 1024 t) in rw t (rw (p .0, p .1, p .2))) (λ t. rw t)
 
 -- ---- any line
 

@@ -6,7 +6,7 @@ use Prim.Native.Nat.{ℕ, _≤_}
 use native.Mathlib.Omega.{arith}
 use borrow.Author.Tests.{not-true}
 use native.Mathlib.Nat.{not-suc-le-zero}
-use Rattle.numbers.proofs.Laws.{by-flag, not-both}
+use Rattle.numbers.proofs.Laws.{cases, not-both}
 use Rattle.beats.specs.declared.Beat.{Beat}
 use Rattle.beats.specs.Beats.{isBeat}
 use Rattle.beats.specs.Sums.{belowBeat}
@@ -59,7 +59,7 @@ module _ (map : List MeterPoint) (default : ℕ) (pickup : Pickup) (rising : Ris
   pub count-least : reaches map default pickup beat 2147483648 ≡ true → Least (reaches map default pickup beat) (countAt map default pickup beat)
   unfolding reaches
   count-least e =
-      by-flag (belowBeat zeroBeat beat)
+      cases (belowBeat zeroBeat beat)
       (λ t. rw (count-searched map default pickup beat t) (searched-least (test map default pickup beat) reaches-stays (ap not (at-zero ∙ t)) e))
       (λ t. rw (count-zero map default pickup beat t) (record { passes = ap not (at-zero ∙ t); fails = λ bar h. absurd (not-suc-le-zero h) }))
 
@@ -67,6 +67,6 @@ module _ (map : List MeterPoint) (default : ℕ) (pickup : Pickup) (rising : Ris
   pub count-past : reaches map default pickup beat 2147483648 ≡ false → countAt map default pickup beat ≡ 4294967295
   unfolding reaches
   count-past e =
-      by-flag (belowBeat zeroBeat beat)
+      cases (belowBeat zeroBeat beat)
       (λ t. count-searched map default pickup beat t ∙ searched-none (test map default pickup beat) reaches-stays e)
       (λ t. not-both (test map default pickup beat 2147483648) (reaches-stays 0 2147483648 (omega arith) (omega arith) (ap not (at-zero ∙ t))) e)

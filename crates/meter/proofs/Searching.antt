@@ -6,7 +6,7 @@ use native.Mathlib.Nat.{pow-succ', le-mul-of-pos-right, pow-zero, zero-lt-suc, z
 use native.Mathlib.Omega.{arith}
 use lib.Pow.{pow-pos}
 use borrow.Author.Tests.{lt-ltb, le-ltb}
-use Rattle.numbers.proofs.Laws.{by-flag, not-both, by-order}
+use Rattle.numbers.proofs.Laws.{cases, not-both, by-order}
 use Rattle.meter.specs.declared.count.Upper.{Upper}
 use Rattle.meter.specs.declared.count.Upper.the-variants.{Bar, Unsearched}
 use Rattle.meter.specs.Counts.{doubling, halving, within, searched, Least}
@@ -57,7 +57,7 @@ module _ (test : ℕ → Bool) where
       halving-over (suc f) lo hi l ∙ sym (halving-over zero lo hi l)
   halving-enough (suc f) (suc g) lo hi h k =
       by-order (lo + 1) hi
-      (λ t. by-flag (test (lo + (hi - lo) / 2))
+      (λ t. cases (test (lo + (hi - lo) / 2))
       (λ s. halving-down f lo hi t s ∙ halving-enough f g lo (lo + (hi - lo) / 2) (omega (arith, pow-succ' 2 f)) (omega (arith, pow-succ' 2 g)) ∙ sym (halving-down g lo hi t s))
       (λ s. halving-up f lo hi t s ∙ halving-enough f g (lo + (hi - lo) / 2) hi (omega (arith, pow-succ' 2 f)) (omega (arith, pow-succ' 2 g)) ∙ sym (halving-up g lo hi t s)))
       (λ t. halving-over (suc f) lo hi t ∙ sym (halving-over (suc g) lo hi t))
@@ -107,7 +107,7 @@ module _ (test : ℕ → Bool) where
 
   module _ (stays : Stays test) where
     earlier : (i j : ℕ) → i ≤ j → j ≤ 2147483648 → test j ≡ false → test i ≡ false
-    earlier i j h l e = by-flag (test i) (λ t. not-both (test j) (stays i j h l t) e) (λ f. f)
+    earlier i j h l e = cases (test i) (λ t. not-both (test j) (stays i j h l t) e) (λ f. f)
 
     halved : (times lo hi : ℕ) → hi - lo ≤ 2 ^ times → lo < hi → hi ≤ 2147483648 → test lo ≡ false → test hi ≡ true → Least test (halving test times lo hi)
     unfolding halving
@@ -115,7 +115,7 @@ module _ (test : ℕ → Bool) where
         record { passes = q; fails = λ k kh. earlier k lo (omega (arith, pow-zero 2)) (omega arith) p }
     halved (suc times) lo hi w h l p q =
         by-order (lo + 1) hi
-        (λ t. by-flag (test (lo + (hi - lo) / 2))
+        (λ t. cases (test (lo + (hi - lo) / 2))
         (λ s. rw (halving-down times lo hi t s) (halved times lo (lo + (hi - lo) / 2) (omega (arith, pow-succ' 2 times)) (omega arith) (omega arith) p s))
         (λ s. rw (halving-up times lo hi t s) (halved times (lo + (hi - lo) / 2) hi (omega (arith, pow-succ' 2 times)) (omega arith) l s q)))
         (λ t. rw (halving-ends times lo hi t) (record { passes = q; fails = λ k kh. earlier k lo (omega arith) (omega arith) p }))
@@ -129,11 +129,11 @@ module _ (test : ℕ → Bool) where
     unfolding doubling
     doubled zero hi h e =
         let n : hi ≡ 2147483648 = omega (arith, pow-zero 2, ap (λ (x : ℕ). hi * x) (pow-zero 2)) in
-        by-flag (test hi) (λ t. rw (doubling-ends zero hi t) (t, (h, omega arith))) (λ t. rw (doubling-more zero hi t, doubling) (sym (ap test n) ∙ t))
+        cases (test hi) (λ t. rw (doubling-ends zero hi t) (t, (h, omega arith))) (λ t. rw (doubling-more zero hi t, doubling) (sym (ap test n) ∙ t))
     doubled (suc tries) hi h e =
         let m : hi * 2 * 2 ^ tries ≡ 2147483648 = omega (arith, ap (λ (x : ℕ). hi * x) (pow-succ' 2 tries)) in
         let l : hi ≤ hi * 2 ^ suc tries = le-mul-of-pos-right hi (pow-pos (suc tries)) in
-        by-flag (test hi) (λ t. rw (doubling-ends (suc tries) hi t) (t, (h, omega arith))) (λ t. rw (doubling-more (suc tries) hi t) (doubled tries (hi * 2) (omega arith) m))
+        cases (test hi) (λ t. rw (doubling-ends (suc tries) hi t) (t, (h, omega arith))) (λ t. rw (doubling-more (suc tries) hi t) (doubled tries (hi * 2) (omega arith) m))
 
     first : Found (doubling test 32 1)
     first = doubled 31 1 (omega arith) refl

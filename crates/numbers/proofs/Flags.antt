@@ -1,11 +1,7 @@
--- Flags: by their two cases, what a conjunction that holds says of each side, and one that holds as a type. Assumes nothing.
+-- Flags: what a conjunction that holds says of each side, and one that holds as a type. Assumes nothing.
 use mathlib.Core.Path.{_≡_, refl, sym, _∙_, subst}
-use mathlib.Core.Bool.{Bool, true, false, _&&_, true≢false}
+use mathlib.Core.Bool.{Bool, true, false, cond, _&&_, true≢false}
 use lib.Dec.{T}
-
-pub by-flag {ℓ} : {X : Type ℓ} (b : Bool) → (b ≡ true → X) → (b ≡ false → X) → X
-by-flag true f g = f refl
-by-flag false f g = g refl
 
 pub never : {X : Type 0} → false ≡ true → X
 never e = absurd (true≢false (sym e))
@@ -19,6 +15,10 @@ holds b e = subst T (sym e) tt
 pub both : (a b : Bool) → (a && b) ≡ true → (a ≡ true) × (b ≡ true)
 both true b e = (refl, e)
 both false b e = (e, never e)
+
+pub cond-same : {X : Type 0} (b : Bool) (x : X) → cond b x x ≡ x
+cond-same true x = refl
+cond-same false x = refl
 
 pub and-left : (a b : Bool) → (a && b) ≡ true → a ≡ true
 and-left a b e = both a b e .0

@@ -4,8 +4,9 @@
 pub use Rattle.numbers.proofs.Answers.{one-answer, Apart, one-reading, apart-by, caseOf, apart-cases}
 -- a table of questions and answers
 pub use Rattle.numbers.proofs.Answers.{Agree}
--- a flag by its cases, and a conjunction that holds
-pub use Rattle.numbers.proofs.Flags.{by-flag, never, not-both, holds, both, and-left, and-right}
+-- a flag by its cases, by the kit; and a conjunction that holds
+pub use borrow.Table.Steps.{cases}
+pub use Rattle.numbers.proofs.Flags.{never, not-both, holds, both, and-left, and-right, cond-same}
 -- the greatest common divisor divides both numbers, and all that divides both divides it
 pub use Rattle.numbers.proofs.Divisor.{gcd-left, gcd-right, gcd-greatest, gcd-zero, gcd-pos, gcd-le}
 -- what follows where it is 1
@@ -20,11 +21,11 @@ pub use Rattle.numbers.proofs.Exacts.{value-exact, valued}
 -- whole numbers with a sign, for `omega`: each by its part above zero and its part below
 pub use Rattle.numbers.proofs.Parts.{up, down, eq-parts, lt-parts, parts-lt, sum-parts, up-neg, down-neg, up-times, down-times}
 pub use Rattle.numbers.proofs.Parts.{not-negative, natural, grows}
-pub use Rattle.numbers.proofs.Parts.{times-times, sum-times, gap-times, swapped, swapped-signed, times-cancel, lt-trans, sums-apart, grown}
+pub use Rattle.numbers.proofs.Parts.{minus-times, times-times, sum-times, gap-times, swapped, swapped-signed, times-cancel, lt-trans, sums-apart, grown}
 -- the order of two numbers
 pub use Rattle.numbers.proofs.Orders.{isLess, less-is, equal-only, same-equal, turned, exchanged, order-minus, order-times}
 -- by the order of two numbers; products
 pub use Rattle.numbers.proofs.Words.{by-order, product-fits, factor-zero, one-more}
 -- lists written into lent ones
-pub use Rattle.numbers.proofs.Lists.{sets-append}
+pub use Rattle.numbers.proofs.Lists.{sets-append, drop-four}
 pub use Rattle.numbers.proofs.Writing.{Writing, begin, begin-by, more, finish, in-place, ahead, skip, more-word, move}

@@ -1,11 +1,23 @@
--- Words stored from a place on: one list behind another is stored as the two, the second where the first ends.
+-- Words stored from a place on: one list behind another is stored as the two, the second where the first ends. And four words read from a place on.
 use mathlib.Core.Path.{_≡_, sym, ap, _∙_}
 use mathlib.Core.List.{List, [], _∷_, _++_}
-use Prim.Native.Nat.{ℕ, suc, _+_}
+use Prim.Native.Nat.{ℕ, suc, _+_, _≤_}
 use native.Mathlib.Nat.{add-zero, add-suc, suc-add}
-use lib.ListN.{length, set}
-use lib.Seq.{sets}
+use native.Mathlib.Numerals.{add-one, add-two, add-three, add-four}
+use native.Mathlib.Omega.{arith}
+use lib.ListN.{length, drop, getD, set}
+use lib.Seq.{sets, drop-cons}
 
 pub sets-append : (out : List ℕ) (at : ℕ) (vs ws : List ℕ) → sets out at (vs ++ ws) ≡ sets (sets out at vs) (at + length vs) ws
 sets-append out at [] ws = ap (λ (n : ℕ). sets out n ws) (sym (add-zero at))
 sets-append out at (v ∷ vs) ws = sets-append (set out at v) (suc at) vs ws ∙ ap (λ (n : ℕ). sets (sets (set out at v) (suc at) vs) n ws) (suc-add at (length vs) ∙ sym (add-suc at (length vs)))
+
+-- the four words from i on, and the rest
+pub drop-four : (l : List ℕ) (i : ℕ) → i + 4 ≤ length l
+    → drop i l ≡ getD l i 0 ∷ getD l (i + 1) 0 ∷ getD l (i + 2) 0 ∷ getD l (i + 3) 0 ∷ drop (i + 4) l
+drop-four l i h =
+    rw (add-one, add-two, add-three, add-four)
+    (drop-cons l i 0 (omega arith) ∙ ap (λ (t : List ℕ). getD l i 0 ∷ t)
+    (drop-cons l (suc i) 0 (omega arith) ∙ ap (λ (t : List ℕ). getD l (suc i) 0 ∷ t)
+    (drop-cons l (suc (suc i)) 0 (omega arith) ∙ ap (λ (t : List ℕ). getD l (suc (suc i)) 0 ∷ t)
+    (drop-cons l (suc (suc (suc i))) 0 (omega arith)))))

@@ -9,7 +9,8 @@ use lib.Dec.{T, ltb→lt, lt→ltb}
 use lib.IntN.{ℤ, pos, negsuc, negℤ, subℕ, _+ℤ_, _-ℤ_, _*ℤ_, *ℤ-negsuc}
 use lib.Signed.{ltZ, leZ}
 use borrow.Author.Tests.{lt-ltb, le-ltb}
-use Rattle.numbers.proofs.Flags.{by-flag, never, holds}
+use borrow.Table.Steps.{cases}
+use Rattle.numbers.proofs.Flags.{never, holds}
 use Rattle.numbers.proofs.Words.{by-order}
 
 abbrev pub up : ℤ → ℕ
@@ -72,7 +73,7 @@ natural (pos n) e = refl
 natural (negsuc n) e = let z : ⊥ = omega arith in absurd z
 
 not-less : (x y : ℤ) → up y + down x ≤ up x + down y → ltZ x y ≡ false
-not-less x y h = by-flag (ltZ x y) (λ t. absurd (no (lt-parts x y (holds (ltZ x y) t)))) (λ t. t)
+not-less x y h = cases (ltZ x y) (λ t. absurd (no (lt-parts x y (holds (ltZ x y) t)))) (λ t. t)
   where
     no : up x + down y < up y + down x → ⊥
     no l = omega arith

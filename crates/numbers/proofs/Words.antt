@@ -9,7 +9,7 @@ use lib.Arith.{digits-div, digits-mod}
 use lib.Dec.{ltb}
 use borrow.Author.Tests.{lt-ltb, le-ltb, ltb-true, ltb-false}
 use Rattle.numbers.specs.Exacts.{sizeOf, wideOf}
-use Rattle.numbers.proofs.Flags.{by-flag}
+use borrow.Table.Steps.{cases}
 
 -- two words are the words of a number
 pub words : (n h l : ℕ) → l < 2 ^ 64 → n ≡ h * 2 ^ 64 + l → record { hi = h; lo = l } ≡ wideOf n
@@ -79,7 +79,7 @@ module _ {al bl : ℕ} (h : al < bl) (hb : bl < 2 ^ 64) where
 
 -- by the order of two numbers
 pub by-order {ℓ} : {X : Type ℓ} (a b : ℕ) → (a < b → X) → (b ≤ a → X) → X
-by-order a b f g = by-flag (ltb a b) (λ e. f (ltb-true a b e)) (λ e. g (ltb-false a b e))
+by-order a b f g = cases (ltb a b) (λ e. f (ltb-true a b e)) (λ e. g (ltb-false a b e))
 
 pub ltb-same : (a b c d : ℕ) → (a < b → c < d) → (b ≤ a → d ≤ c) → ltb a b ≡ ltb c d
 ltb-same a b c d f g = by-order a b (λ h. lt-ltb a b h ∙ sym (lt-ltb c d (f h))) (λ h. le-ltb a b h ∙ sym (le-ltb c d (g h)))

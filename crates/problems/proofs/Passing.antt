@@ -7,7 +7,7 @@ use native.Mathlib.Nat.{zero-add, add-zero}
 use native.Mathlib.Omega.{arith}
 use lib.ListN.{length, drop, length-append}
 use lib.Seq.{sets, length-sets, sets-eq}
-use Rattle.numbers.proofs.Laws.{sets-append}
+use Rattle.numbers.proofs.Laws.{sets-append, cond-same}
 use Rattle.problems.specs.Problems.{Problem, problemIf, flat}
 use Rattle.problems.specs.Passes.{put, Ready, Passed}
 
@@ -64,11 +64,7 @@ passed-then {writing} {out} {count} xs ys {middle} {after} {between} {next} one 
 
 pub passed-none : {writing : Bool} {out : List ℕ} {count : ℕ} → Passed writing out count [] out count
 unfolding flat
-passed-none {writing} {out} {count} = record { counted = sym (add-zero count); words = same writing }
-  where
-    same : (w : Bool) → out ≡ cond w out out
-    same true = refl
-    same false = refl
+passed-none {writing} {out} {count} = record { counted = sym (add-zero count); words = sym (cond-same writing out) }
 
 -- nothing is found
 pub none : {writing : Bool} {out : List ℕ} {count : ℕ} (code index value : ℕ) (found : Bool) → found ≡ false → Passed writing out count (problemIf found code index value) out count

@@ -10,7 +10,7 @@ use Rattle.rounding.proofs.Signs as by-sign
 pub use Rattle.rounding.proofs.Signs.{stopped}
 use Rattle.rounding.proofs.Picks as by-test
 use Rattle.rounding.proofs.Words as by-word
-pub use Rattle.rounding.proofs.Words.{plain, infWord}
+pub use Rattle.rounding.proofs.Words.{plain, infWord, zero-bits, one-bits}
 -- the test `<=` is transitive
 pub use Rattle.rounding.proofs.Order.{le-trans-float}
 -- floats that are not negative: rounding and the rounded operations keep their order

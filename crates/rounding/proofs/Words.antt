@@ -7,6 +7,7 @@ use borrow.Author.Tests.{lt-ltb, le-ltb}
 use lib.Bits.{bitAnd, and-mask}
 use lib.Ieee.{Float, nan, inf, fin, Format, binary32, binary64, ones, hid, top, ofBits, toBits, nanBits, isNan}
 use lib.Ieee.Bits.{nanBits-is, nanBits-above}
+use Rattle.rounding.specs.Floats.{float0, float1}
 
 -- the place of the sign, and an infinity's pattern
 abbrev pub signPlace : Format → ℕ
@@ -44,3 +45,12 @@ module _ (f : Format) (word : ℕ) where
 pub nan-word : (f : Format) (x : Float) → x ≡ nan → infWord f + hid f / 2 ≡ toBits f x
 unfolding toBits
 nan-word f x h = rw h
+
+-- 0.0 and 1.0 by their bits
+pub zero-bits : ofBits binary32 0 ≡ float0
+unfolding ofBits
+zero-bits = refl
+
+pub one-bits : ofBits binary32 0x3f80_0000 ≡ float1
+unfolding ofBits
+one-bits = refl

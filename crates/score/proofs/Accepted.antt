@@ -9,7 +9,7 @@ use lib.IntN.{ℤ}
 use lib.ListN.{length, take, drop}
 use lib.Seq.{take-at, take-all, length-take-le}
 use Rattle.numbers.specs.Answers.{Answer, accepted, refused}
-use Rattle.numbers.proofs.Laws.{and-left, and-right, by-order, by-flag}
+use Rattle.numbers.proofs.Laws.{and-left, and-right, by-order, cases}
 use Rattle.beats.specs.declared.Beat.{Beat}
 use Rattle.beats.specs.Beats.{isBeat}
 use Rattle.meter.specs.declared.Pickup.the-variants.{Absent, Present}
@@ -36,11 +36,11 @@ value s (refused n facts) = s
 -- what the answer r says of the bytes that it was given for
 module _ (b : List ℕ) {r : ScoreAnswer} where
   pub bad-file : r ≡ BadFile → readScore r ≡ scoreAnswer b → isScore b ≡ false
-  bad-file is e = by-flag (isScore b) (λ t. never (scoreOf b) (accepted-is b t (scoreOf b) refl ∙ sym e ∙ ap readScore is)) (λ t. t)
+  bad-file is e = cases (isScore b) (λ t. never (scoreOf b) (accepted-is b t (scoreOf b) refl ∙ sym e ∙ ap readScore is)) (λ t. t)
 
   module _ {s : Score} (is : r ≡ Read s) (e : readScore r ≡ scoreAnswer b) where
     pub good-file : isScore b ≡ true
-    good-file = by-flag (isScore b) (λ t. t) (λ t. never s (sym (ap readScore is) ∙ e ∙ sym (refused-is b t)))
+    good-file = cases (isScore b) (λ t. t) (λ t. never s (sym (ap readScore is) ∙ e ∙ sym (refused-is b t)))
 
     pub says : s ≡ scoreOf b
     unfolding value
@@ -86,7 +86,7 @@ module _ (b : List ℕ) where
 
   -- longer bytes are none
   pub too-long : 19504 < length b → isScore b ≡ false
-  too-long h = by-flag (isScore b) (λ t. absurd (omega (arith, longest t))) (λ t. t)
+  too-long h = cases (isScore b) (λ t. absurd (omega (arith, longest t))) (λ t. t)
 
 -- ---- a score that was read
 

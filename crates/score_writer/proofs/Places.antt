@@ -9,7 +9,7 @@ use lib.IntN.{ℤ}
 use lib.ListN.{length, take, drop, getD}
 use lib.Seq.{getD-append-add, getD-drop, drop-cons, drop-drop}
 use Rattle.numbers.specs.Signs.{inI64}
-use Rattle.numbers.proofs.Laws.{signed-bits, bits-signed}
+use Rattle.numbers.proofs.Laws.{signed-bits, bits-signed, drop-four}
 use Rattle.numbers.specs.Bits.{signedOf, bitsOf}
 use Rattle.beats.specs.Beats.{isBeat}
 use Rattle.tempo.specs.Answers.{allBeats}
@@ -72,16 +72,6 @@ four x y z w a b c d =
     link e₀ (link (ap byte d₁ ∙ e₁) (link (ap byte d₂ ∙ e₂) (link (ap byte d₃ ∙ e₃) refl)))
 
 module _ (b : List ℕ) where
-  step : (q r : ℕ) → r ≡ suc q → q < length b → drop q b ≡ getD b q 0 ∷ drop r b
-  step q r e h = drop-cons b q 0 h ∙ ap (λ (k : ℕ). getD b q 0 ∷ drop k b) (sym e)
-
-  four-on : (p : ℕ) → p + 4 ≤ length b → drop p b ≡ getD b p 0 ∷ getD b (p + 1) 0 ∷ getD b (p + 2) 0 ∷ getD b (p + 3) 0 ∷ drop (p + 4) b
-  four-on p h =
-      step p (p + 1) (omega arith) (omega arith)
-      ∙ link refl (step (p + 1) (p + 2) (omega arith) (omega arith)
-      ∙ link refl (step (p + 2) (p + 3) (omega arith) (omega arith)
-      ∙ link refl (step (p + 3) (p + 4) (omega arith) (omega arith))))
-
   module _ (all : AllBelow 256 b) where
     pub word-fits : (p : ℕ) → wordAt b p < 2 ^ 32
     unfolding wordAt
@@ -100,7 +90,7 @@ module _ (b : List ℕ) where
         let rest = bytes-again n (p + 4) (omega arith) in
         ap (λ (l : List ℕ). l ++ wordsBytes (each (wordAt b) (p + 4) 4 n)) (bytes-at p)
         ∙ ap (λ (l : List ℕ). getD b p 0 ∷ getD b (p + 1) 0 ∷ getD b (p + 2) 0 ∷ getD b (p + 3) 0 ∷ l) rest
-        ∙ ap (take (suc (suc (suc (suc (4 * n)))))) (sym (four-on p (omega arith)))
+        ∙ ap (take (suc (suc (suc (suc (4 * n)))))) (sym (drop-four b p (omega arith)))
         ∙ ap (λ (k : ℕ). take k (drop p b)) e
 
 -- ---- numbers

@@ -8,7 +8,7 @@ use borrow.Author.Tests.{lt-ltb, le-ltb, lt-leb, le-leb, eq-eqb, ne-eqb, eqb-tru
 use lib.Dec.{ltb, leb, eqb}
 use lib.ListN.{length, take, drop, getD}
 use lib.Seq.{take-all}
-use Rattle.numbers.proofs.Laws.{by-order, and-left}
+use Rattle.numbers.proofs.Laws.{by-order, and-left, cond-same}
 use Rattle.spelling.specs.declared.digits.Digits.{Digits}
 use Rattle.spelling.specs.declared.digits.Digits.the-variants.{Number, NotDigits}
 use Rattle.spelling.specs.declared.TempoWord.{TempoWord}
@@ -71,11 +71,7 @@ tested : (read : Digits) (back : List ℕ)
     → cond (ltb 0 (length back) && leb (length back) 10) (tempoBy (length back) (carried 10 16777215 read back)) NotTempo ≡ pointed read back
 unfolding carried pointed behindPoint
 tested (Number n) back = refl
-tested NotDigits back = go (ltb 0 (length back) && leb (length back) 10)
-  where
-    go : (t : Bool) → cond t NotTempo NotTempo ≡ NotTempo
-    go true = refl
-    go false = refl
+tested NotDigits back = cond-same (ltb 0 (length back) && leb (length back) 10) NotTempo
 
 some-front : (front back : List ℕ) → (length front ≡ 0 → ⊥)
     → pointTempo front back ≡ cond (ltb 0 (length back) && leb (length back) 10) (tempoBy (length back) (numberBy 10 16777215 0 (front ++ back))) NotTempo

@@ -5,7 +5,7 @@ use mathlib.Core.List.{List, []}
 use Prim.Native.Nat.{ℕ}
 use native.Mathlib.Omega.{arith}
 use lib.ListN.{length as count}
-use Rattle.numbers.proofs.Laws.{by-flag}
+use Rattle.numbers.proofs.Laws.{cases}
 use Rattle.numbers.specs.Answers.{Answer, accepted, refused}
 use Rattle.transport.specs.declared.Transport.{Transport}
 use Rattle.transport.specs.Transports.{sound}
@@ -26,7 +26,7 @@ passed false next u e = absurd (let z : _≡_ {A = ℕ} 0 1 = cc in omega arith)
 
 -- a sound clock is a clock
 pub is-clock : (words : List ℕ) → sound (clockOf words) ≡ true → clockWords words ≡ true
-is-clock words s = by-flag (clockWords words) (λ e. e) (λ e. absurd (no-clock-unsound words e s))
+is-clock words s = cases (clockWords words) (λ e. e) (λ e. absurd (no-clock-unsound words e s))
 
 module _ (rate bpm beats length position state loop start end num den : ℕ) where
   abbrev clock : List ℕ
@@ -46,7 +46,7 @@ module _ (rate bpm beats length position state loop start end num den : ℕ) whe
 
   advances : (frames : ℕ) → clockOf (clockAfter clock (advancedBy clock frames)) ≡ advancedBy clock frames .transport
   unfolding advancedBy
-  advances frames = by-flag (sound here) (λ e. rw e (moved e frames)) (λ e. rw e)
+  advances frames = cases (sound here) (λ e. rw e (moved e frames)) (λ e. rw e)
 
   cue : (lines : List ℕ) (frames : ℕ) (out : List ℕ) → clockOf (clockAfter clock (cued clock lines frames out)) ≡ cued clock lines frames out .transport
   unfolding cued

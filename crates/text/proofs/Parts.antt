@@ -11,7 +11,7 @@ use lib.IntN.{ℤ, pos, negsuc, natAbs}
 use lib.ListN.{length, length-append}
 use mir.Syntax.{w64}
 use mir.Val.{SFits}
-use Rattle.numbers.proofs.Laws.{by-order, by-flag}
+use Rattle.numbers.proofs.Laws.{by-order, cases}
 use Rattle.numbers.specs.Signs.{isNeg}
 use Rattle.beats.specs.declared.Beat.{Beat}
 use Rattle.text.specs.Texts.{decimal, signedText, beatText}
@@ -72,4 +72,4 @@ unfolding beatText
 beat-short b f h =
     let s = signed-short (b .num) f in
     let d = digits32 (b .den) h in
-    by-flag (eqb (b .den) 1) (λ e. simp (e, length-append) (omega arith)) (λ e. simp (e, length-append) (omega arith))
+    cases (eqb (b .den) 1) (λ e. simp (e, length-append) (omega arith)) (λ e. simp (e, length-append) (omega arith))

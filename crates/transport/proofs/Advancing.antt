@@ -3,7 +3,7 @@ use mathlib.Core.Path.{_≡_, refl, ap, _∙_}
 use mathlib.Core.Bool.{Bool, true, false, cond, not, _&&_}
 use Prim.Native.Nat.{ℕ, _+_, _-_, _≤_, _^_}
 use native.Mathlib.Omega.{arith}
-use Rattle.numbers.proofs.Laws.{by-flag}
+use Rattle.numbers.proofs.Laws.{cases}
 use Rattle.transport.specs.declared.PlayState.{PlayState}
 use Rattle.transport.specs.declared.PlayState.the-variants.{Playing}
 use Rattle.transport.specs.declared.playhead.Stands.{Stands}
@@ -50,7 +50,7 @@ placeAfter t frames = standing (t .length) (t .looping) (reached (t .position) f
 module _ (t : Transport) (frames : ℕ) (P : Run → Type 0) where
   pub by-playing : (playing (t .state) ≡ true → P (came t (placeAfter t frames))) → (playing (t .state) ≡ false → P (stayed t)) → P (advanced t frames)
   unfolding advanced
-  by-playing f g = by-flag (playing (t .state)) (λ p. rw p (f p)) (λ p. rw p (g p))
+  by-playing f g = cases (playing (t .state)) (λ p. rw p (f p)) (λ p. rw p (g p))
 
 module _ (t : Transport) where
   came-keeps : (place : Stands) → came t place .transport ≡ movedTo t (came t place .transport .position) (came t place .transport .state)

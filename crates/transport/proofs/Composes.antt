@@ -4,7 +4,7 @@ use mathlib.Core.Logic.{inl, inr}
 use mathlib.Core.Bool.{Bool, true, false, _||_}
 use Prim.Native.Nat.{ℕ, _+_, _-_, _≤_, _^_}
 use native.Mathlib.Omega.{arith}
-use Rattle.numbers.proofs.Laws.{by-flag}
+use Rattle.numbers.proofs.Laws.{cases}
 use Rattle.transport.specs.declared.PlayState.the-variants.{Stopped, Playing}
 use Rattle.transport.specs.declared.playhead.Stands.{Stands}
 use Rattle.transport.specs.declared.playhead.Stands.the-variants.{At, Wrapped, Ended}
@@ -71,7 +71,7 @@ module _ (t : Transport) (a b : ℕ) (h : t .position + (a + b) ≤ 2 ^ 64 - 1) 
 
   module _ (is : sound t ≡ true) where
     pub composes : Composes t a b
-    composes = by-flag (playing (t .state)) (λ p. composes-playing p (carried (t .length) (t .looping) (t .position) a b (sound-loop t is))) composes-idle
+    composes = cases (playing (t .state)) (λ p. composes-playing p (carried (t .length) (t .looping) (t .position) a b (sound-loop t is))) composes-idle
 
     pub calls-compose : CallsCompose t a b
     calls-compose = record {

@@ -1,6 +1,6 @@
 -- The four words from i on, and the rest.
 use borrow.Author.Needs.{needs}
-use Rattle.notes.proofs.FourWords.{drop-four}
+use Rattle.numbers.proofs.Laws.{drop-four}
 use Rattle.notes.proofs.words.note_at.Tie as tie
 use Rattle.notes.proofs.words.note_at.Statement.{statement}
 

@@ -1,19 +1,12 @@
 -- The calls one after the other; 0.0 and 1.0 are their bits.
-use mathlib.Core.Path.{_≡_, refl, ap, _∙_}
-use lib.Ieee.{binary32, mul, ofBits, toBits}
+use mathlib.Core.Path.{ap, _∙_}
+use lib.Ieee.{binary32, mul, toBits}
 use borrow.Author.Needs.{needs}
-use Rattle.rounding.specs.Floats.{clamp, float0, float1}
+use Rattle.rounding.specs.Floats.{clamp}
+use Rattle.rounding.proofs.Laws.{zero-bits, one-bits}
 use Rattle.rhythm.specs.Values.{scaledGain}
 use Rattle.rhythm.proofs.steps.scaled.Tie as tie
 use Rattle.rhythm.proofs.steps.scaled.Statement.{statement}
-
-zero-bits : ofBits binary32 0 ≡ float0
-unfolding ofBits
-zero-bits = refl
-
-one-bits : ofBits binary32 0x3f80_0000 ≡ float1
-unfolding ofBits
-one-bits = refl
 
 f32-of-requires : tie.Need-f32-of-requires
 f32-of-requires c κs = search needs
