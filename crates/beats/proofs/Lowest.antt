@@ -1,8 +1,8 @@
 -- A new beat is in lowest terms and has the fraction's value, and a beat is its value: equal fractions have one beat.
 use mathlib.Core.Path.{_≡_, refl, sym, ap, _∙_, subst}
 use mathlib.Core.Bool.{true}
-use Prim.Native.Nat.{ℕ, zero, suc, max, _*_, _/_, _<_, _∣_}
-use native.Mathlib.Nat.{zero-div, div-self, zero-mul, div-one, le-div-iff-mul-le, div-mul-cancel, dvd-mul-left, mul-assoc, mul-right-comm}
+use Prim.Native.Nat.{ℕ, suc, max, _*_, _/_, _<_, _∣_}
+use native.Mathlib.Nat.{zero-div, div-self, div-one, le-div-iff-mul-le, div-mul-cancel, dvd-mul-left, mul-assoc, mul-right-comm}
 use native.Mathlib.Omega.{arith}
 use lib.IntN.{ℤ, pos, negsuc, negℤ, natAbs, _*ℤ_}
 use lib.Signed.{quotZ}

@@ -4,13 +4,11 @@ use mathlib.Core.Bool.{Bool, true, false, cond}
 use mathlib.Core.List.{List, []}
 use Prim.Native.Nat.{ℕ, _+_, _-_, _/_, _≤_, _<_, _^_}
 use borrow.Author.Tests.{le-leb, lt-leb}
-use lib.Dec.{leb}
 use lib.ListN.{length}
 use Rattle.numbers.specs.Answers.{Answer, accepted, refused}
 use Rattle.transport.specs.declared.playhead.Run.{Run}
 use Rattle.transport.specs.declared.Transport.{Transport}
 use Rattle.transport.specs.Transports.{sound, playing}
-use Rattle.transport.specs.Changes.{Handed}
 use Rattle.transport.specs.Advances.{advanced}
 use Rattle.transport.proofs.Laws.{stays-put}
 use Rattle.lines.specs.Lines.{linesAnswer}

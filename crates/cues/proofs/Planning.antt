@@ -1,7 +1,7 @@
 -- The cues of a playing run are those of its plan.
-use mathlib.Core.Path.{_≡_, refl, sym, ap, _∙_, subst}
+use mathlib.Core.Path.{_≡_, refl, sym, ap, _∙_}
 use mathlib.Core.Bool.{true}
-use mathlib.Core.List.{List, [], _∷_, _++_, map, append-nil}
+use mathlib.Core.List.{List, _++_, map, append-nil}
 use Prim.Native.Nat.{ℕ, zero, suc, _+_, _-_, _*_, _/_, _%_, _≤_, _<_, zero-le}
 use native.Mathlib.Nat.{add-zero, zero-add, zero-mul, suc-mul, mod-lt, div-add-mod', le-of-lt}
 use native.Mathlib.Omega.{arith}
@@ -17,9 +17,8 @@ use Rattle.transport.specs.Transports.{sound, playing, movedTo}
 use Rattle.transport.specs.Advances.{fold, standing, came, advanced}
 use Rattle.transport.proofs.Laws.{on-sound, fold-lt, sound-loop, moved-sound, plays-on}
 use Rattle.lines.specs.Lines.{ascends}
-use Rattle.cues.specs.declared.plan.Plan.{Plan}
 use Rattle.cues.specs.Sounding.{Cue, cues, later}
-use Rattle.cues.specs.Plans.{stretch, lapCues, planCues, straightPlan, lapPlan, loopPlan, Fitting, Plays, Planned}
+use Rattle.cues.specs.Plans.{stretch, lapCues, planCues, straightPlan, loopPlan, Fitting, Plays, Planned}
 use Rattle.cues.proofs.Sounding.{later-zero, cues-on}
 use Rattle.cues.proofs.Stretches.{no-frames, straight-off, straight-on, wraps-on, ends-off}
 

@@ -7,7 +7,6 @@ use Prim.Native.Nat.{ℕ, zero, suc, _+_, _-_, _≤_, _<_, _^_}
 use native.Mathlib.Nat.{add-zero, add-suc, mod-self}
 use native.Mathlib.Omega.{arith}
 use borrow.Author.Tests.{le-leb, lt-leb, lt-ltb, le-ltb, eq-eqb, ne-eqb}
-use lib.Dec.{leb, ltb, eqb}
 use Rattle.numbers.proofs.Laws.{by-order}
 use Rattle.transport.specs.declared.PlayState.the-variants.{Playing, Stopped}
 use Rattle.transport.specs.declared.LoopRange.the-variants.{Off, On}
@@ -16,11 +15,11 @@ use Rattle.transport.specs.declared.playhead.Stands.the-variants.{At, Wrapped, 
 use Rattle.transport.specs.declared.playhead.Run.{Run}
 use Rattle.transport.specs.declared.Transport.{Transport}
 use Rattle.transport.specs.Transports.{sound, playing, movedTo}
-use Rattle.transport.specs.Advances.{standing, came, advanced}
+use Rattle.transport.specs.Advances.{standing, came}
 use Rattle.transport.proofs.Laws.{plays-on}
 use Rattle.lines.specs.Lines.{ascendsFrom, ascends}
 use Rattle.lines.proofs.Laws.{up-step}
-use Rattle.cues.specs.Sounding.{Cue, cueIf, standsAt, soundedAt, linesEqual, cuesAt, cues, later}
+use Rattle.cues.specs.Sounding.{Cue, standsAt, soundedAt, linesEqual, cuesAt, cues, later}
 use Rattle.cues.specs.Plans.{stretch}
 use Rattle.cues.proofs.Sounding.{sounds-playing, silent, cues-on}
 

@@ -1,15 +1,15 @@
 -- From seconds that do not fall to frames that do not fall, and from beats in exact order to floats in order.
 use mathlib.Core.Path.{_≡_, refl, sym, ap, _∙_, subst}
-use mathlib.Core.Bool.{Bool, true, false, true≢false}
+use mathlib.Core.Bool.{Bool, true, false}
 use Prim.Native.Nat.{ℕ, zero, suc, _*_, _^_, _≤_, _<_}
-use native.Mathlib.Nat.{le-of-eq, le-trans, mul-pos, mul-one, mul-comm, mul-assoc, mul-left-comm, mul-le-mul-left}
+use native.Mathlib.Nat.{le-of-eq, le-trans, mul-pos, mul-one, mul-le-mul-left}
 use native.Mathlib.Omega.{arith}
 use lib.IntN.{ℤ, pos, negsuc, _*ℤ_}
 use lib.Signed.{ltZ, leZ}
-use lib.Dec.{T, leb, lit<, lit≤, ltb→lt}
+use lib.Dec.{T, leb, lit<, lit≤}
 use borrow.Author.Tests.{ltb-true, ltb-false, leb-true}
 use lib.Ieee.{Float, nan, inf, fin, Format, prec, binary64, up, down, round, mul, div, ofInt, toUnsigned}
-use lib.Ieee.Fits.{up-pos, down-pos}
+use lib.Ieee.Fits.{down-pos}
 use lib.Ieee.Exact.{HasValue}
 use lib.Ieee.Back.{round-whole}
 use lib.Ieee.Scale.{round-same, finite}

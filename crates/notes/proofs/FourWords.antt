@@ -1,11 +1,10 @@
 -- Laws on lists of words that several proofs cite.
 use mathlib.Core.List.{List, [], _∷_, _++_, append-assoc}
-use mathlib.Core.Path.{_≡_, ap, _∙_}
-use Prim.Native.Nat.{ℕ, suc, _+_, _≤_}
-use native.Mathlib.Numerals.{add-one, add-two, add-three, add-four}
-use native.Mathlib.Omega.{arith}
-use lib.ListN.{length, take, drop, getD, set}
-use lib.Seq.{drop-cons, sets-eq}
+use mathlib.Core.Path.{_≡_, _∙_}
+use Prim.Native.Nat.{ℕ, _+_, _≤_}
+use native.Mathlib.Numerals.{add-one, add-two, add-three}
+use lib.ListN.{length, take, drop, set}
+use lib.Seq.{sets-eq}
 
 -- four stores in a row
 pub put-four : (l : List ℕ) (i : ℕ) → i + 4 ≤ length l → (a b c d : ℕ)

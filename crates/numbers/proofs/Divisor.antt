@@ -1,6 +1,6 @@
 -- The greatest common divisor: its recursion, and that it is the greatest. Assumes nothing.
 use mathlib.Core.Path.{_≡_, refl, ap, _∙_}
-use Prim.Native.Nat.{ℕ, zero, suc, _-_, _%_, _<_, _≤_, _∣_}
+use Prim.Native.Nat.{ℕ, zero, suc, _%_, _<_, _≤_, _∣_}
 use native.Mathlib.Nat.{mod-lt, dvd-refl, dvd-zero, dvd-mod-iff, zero-lt-suc, pos-of-dvd-of-pos, le-of-dvd, mod-one}
 use native.Mathlib.Omega.{arith}
 use Rattle.numbers.specs.Divisor.{remainders, gcdOf}

@@ -13,9 +13,8 @@ use Rattle.numbers.specs.Signs.{inI64}
 use Rattle.numbers.proofs.Laws.{both}
 use Rattle.meter.specs.Meters.{soundPickup}
 use Rattle.tempo.specs.Answers.{allBeats}
-use Rattle.score.specs.declared.Score.{Score}
 use Rattle.score_writer.specs.Promise.{AllBelow, AcceptedReadsBack}
-use Rattle.score_writer.proofs.Accepted.{WrittenFile, written-file}
+use Rattle.score_writer.proofs.Accepted.{written-file}
 use Rattle.score_writer.proofs.Back.{reads-back}
 
 -- what holds of each element, and of the one past the end, holds of a front's

@@ -5,9 +5,8 @@ use mathlib.Core.Bool.{false}
 use Prim.Native.Nat.{ℕ, zero, suc, _+_, _*_, _^_, _≤_, _<_}
 use native.Mathlib.Nat.{le-trans, pow-le-pow-right, one-le-pow, pow-suc, mul-one, mul-assoc}
 use native.Mathlib.Omega.{arith}
-use lib.Dec.{lit<, lit≤}
+use lib.Dec.{lit<}
 use lib.Pow.{pow-add, pow-mono, shl-lt}
-use lib.IntN.{pos}
 use lib.Ieee.{binary32, ofInt, round, toBits}
 use lib.Ieee.Exact.{HasValue, round-exact}
 use lib.Ieee.Back.{round-whole}

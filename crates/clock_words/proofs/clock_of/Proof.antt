@@ -8,7 +8,7 @@ use mir.Syntax.{w64}
 use mir.ValLaws.{toZ-ofZ}
 use borrow.Author.Needs.{needs}
 use borrow.Author.Tests.{not-true, not-false}
-use Rattle.clock_words.specs.Clocks.{clockWords, pickupOf, transportOf}
+use Rattle.clock_words.specs.Clocks.{clockWords, pickupOf}
 use Rattle.clock_words.proofs.Words.{Shorts, shorts, reads, reads-none}
 use Rattle.clock_words.proofs.clock_of.Statement.{statement}
 use Rattle.clock_words.proofs.clock_of.Tie as tie

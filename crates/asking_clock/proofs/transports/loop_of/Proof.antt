@@ -1,5 +1,5 @@
 -- By the flag.
-use mathlib.Core.Path.{_≡_, sym, _∙_}
+use mathlib.Core.Path.{sym}
 use borrow.Author.Needs.{needs}
 use borrow.Author.Tests.{eq-eqb, ne-eqb}
 use Rattle.asking_clock.proofs.transports.loop_of.Statement.{statement}

@@ -1,7 +1,5 @@
 -- By the test that is known.
-use mathlib.Core.Path.{_≡_, sym, ap, _∙_}
-use Rattle.numbers.specs.Answers.{Answer}
-use Rattle.lines.specs.Lines.{linesAnswer}
+use mathlib.Core.Path.{sym, ap, _∙_}
 use Rattle.lines.specs.Readings.{readLines}
 use Rattle.lines.proofs.Ranges.{fine-lines, range-by}
 use borrow.Author.Needs.{needs}
