@@ -121,6 +121,11 @@ signs-known op x y p q e f = λ i. op (withSign (e i) (sizeOf (x .size))) (withS
 pub valued : (e : Exact) (z : ℤ) → e ≡ exactOf z → valueOf e ≡ z
 valued e z p = ap valueOf p ∙ value-exact z
 
+-- and its sign is the number's, of 0 too
+pub sign-of : (e : Exact) (z : ℤ) → e ≡ exactOf z → e .neg ≡ isNeg (valueOf e)
+unfolding exactOf
+sign-of e z p = ap (λ (x : Exact). x .neg) p ∙ ap isNeg (sym (valued e z p))
+
 -- r is worked out of two numbers that are known
 pub worked : {A : Type 0} (op : ℤ → ℤ → A) (x y : Exact) (r : A) (a b : ℤ) → x ≡ exactOf a → y ≡ exactOf b → r ≡ op (valueOf x) (valueOf y) → r ≡ op a b
 worked op x y r a b p q h = h ∙ (λ i. op (valued x a p i) (valued y b q i))

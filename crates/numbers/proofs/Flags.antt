@@ -1,6 +1,6 @@
--- Flags: what a conjunction that holds says of each side, and one that holds as a type. Assumes nothing.
+-- Flags: what a conjunction that holds says of each side, one that holds as a type, and two that are tested to be the same. Assumes nothing.
 use mathlib.Core.Path.{_≡_, refl, sym, _∙_, subst}
-use mathlib.Core.Bool.{Bool, true, false, cond, _&&_, true≢false}
+use mathlib.Core.Bool.{Bool, true, false, cond, _&&_, Bool·beq, true≢false}
 use lib.Dec.{T}
 
 pub never : {X : Type 0} → false ≡ true → X
@@ -25,3 +25,9 @@ and-left a b e = both a b e .0
 
 pub and-right : (a b : Bool) → (a && b) ≡ true → b ≡ true
 and-right a b e = both a b e .1
+
+pub same-flag : (a b : Bool) → Bool·beq a b ≡ true → a ≡ b
+same-flag true true e = refl
+same-flag true false e = never e
+same-flag false true e = never e
+same-flag false false e = refl

@@ -8,7 +8,6 @@ pub mod Words
 pub mod Exacts
 pub mod Parts
 pub mod Orders
-pub mod Halves
 pub mod Lists
 pub mod Writing
 pub mod Laws

@@ -1,17 +1,18 @@
 -- The order of two numbers is the sign of their difference: one of three, the other way round when they are exchanged, and equal for the same number only.
-use mathlib.Core.Path.{_≡_, refl, ap, _∙_}
-use mathlib.Core.Bool.{Bool, true, false, cond}
+use mathlib.Core.Path.{_≡_, refl, sym, ap, _∙_}
+use mathlib.Core.Bool.{Bool, true, false, cond, Bool·beq}
 use Prim.Native.Nat.{ℕ, zero, suc, _+_, _-_, _*_, _<_}
 use native.Mathlib.Nat.{zero-mul}
 use native.Mathlib.Omega.{arith}
 use lib.Dec.{ltb, leb·suc-suc}
 use lib.IntN.{ℤ, pos, negsuc, negℤ, _-ℤ_, _*ℤ_}
 use lib.Signed.{ltZ}
-use borrow.Author.Tests.{lt-ltb}
+use borrow.Author.Tests.{lt-ltb, le-ltb}
 use Rattle.numbers.specs.declared.exact.Order.{Order}
 use Rattle.numbers.specs.declared.exact.Order.the-variants.{Less, Equal, Greater}
-use Rattle.numbers.specs.Signs.{isNeg}
+use Rattle.numbers.specs.Signs.{isNeg, withSign}
 use Rattle.numbers.specs.Exacts.{orderOf}
+use Rattle.numbers.proofs.Flags.{never}
 use Rattle.numbers.proofs.Exacts.{pos+neg}
 use Rattle.numbers.proofs.Parts.{up, down, eq-parts, sum-parts, up-neg, down-neg}
 
@@ -89,3 +90,49 @@ pub order-times : (z : ℤ) (k : ℕ) → 0 < k → orderOf (z *ℤ pos k) ≡ o
 order-times (pos zero) k h = rw (zero-mul k)
 order-times (pos (suc n)) k h = order-grows n k h
 order-times (negsuc n) k h = order-minus (pos (suc n * k)) ∙ ap turned (order-grows n k h)
+
+-- ---- numbers with a sign each
+
+-- two numbers below zero stand as their sizes do, exchanged
+pub both-below : (p q : ℕ) → ltb q p ≡ ltZ (withSign true p) (withSign true q)
+both-below zero zero = refl
+both-below zero (suc q) = le-ltb (suc q) 0 (omega arith)
+both-below (suc p) zero = lt-ltb 0 (suc p) (omega arith)
+both-below (suc p) (suc q) = leb·suc-suc (suc q) p
+
+-- and of two with unlike signs the one below zero is below
+pub signs-apart : (x y : ℤ) → Bool·beq (isNeg x) (isNeg y) ≡ false → isNeg x ≡ ltZ x y
+signs-apart (pos a) (pos b) e = never (sym e)
+signs-apart (pos a) (negsuc b) e = refl
+signs-apart (negsuc a) (pos b) e = refl
+signs-apart (negsuc a) (negsuc b) e = never (sym e)
+
+-- ---- by two tests
+
+module _ (x y : ℤ) where
+  less-only : (o : Order) → isLess o ≡ true → Less ≡ o
+  less-only Less e = refl
+  less-only Equal e = cc
+  less-only Greater e = cc
+
+  greater-only : (o : Order) → isLess (turned o) ≡ true → Greater ≡ o
+  greater-only Less e = cc
+  greater-only Equal e = cc
+  greater-only Greater e = refl
+
+  equal-else : (o : Order) → isLess o ≡ false → isLess (turned o) ≡ false → Equal ≡ o
+  equal-else Less e f = cc
+  equal-else Equal e f = refl
+  equal-else Greater e f = cc
+
+  back : (t : Bool) → ltZ y x ≡ t → isLess (turned (orderOf (x -ℤ y))) ≡ t
+  back t e = ap isLess (sym (exchanged x y)) ∙ less-is y x ∙ e
+
+  pub is-less : ltZ x y ≡ true → Less ≡ orderOf (x -ℤ y)
+  is-less e = less-only (orderOf (x -ℤ y)) (less-is x y ∙ e)
+
+  pub is-greater : ltZ y x ≡ true → Greater ≡ orderOf (x -ℤ y)
+  is-greater e = greater-only (orderOf (x -ℤ y)) (back true e)
+
+  pub is-equal : ltZ x y ≡ false → ltZ y x ≡ false → Equal ≡ orderOf (x -ℤ y)
+  is-equal e f = equal-else (orderOf (x -ℤ y)) (less-is x y ∙ e) (back false f)

@@ -62,9 +62,6 @@ module _ (m ah al bh bl : ℕ) where
   less-borrow k l e f = omega (arith, ap (λ (x : ℕ). x * m) e)
 
 -- the parts of a difference at 2 ^ 64
-pub apart : {a b : ℕ} → b ≤ a → a ≡ b + (a - b)
-apart h = omega arith
-
 pub apart-one : {a b : ℕ} → b < a → a ≡ b + (a - b - 1) + 1
 apart-one h = omega arith
 
@@ -84,11 +81,13 @@ by-order a b f g = cases (ltb a b) (λ e. f (ltb-true a b e)) (λ e. g (ltb-fals
 pub ltb-same : (a b c d : ℕ) → (a < b → c < d) → (b ≤ a → d ≤ c) → ltb a b ≡ ltb c d
 ltb-same a b c d f g = by-order a b (λ h. lt-ltb a b h ∙ sym (lt-ltb c d (f h))) (λ h. le-ltb a b h ∙ sym (le-ltb c d (g h)))
 
--- the second digits decide where the first are the same
-pub second-decides : (m ah al bh bl : ℕ) → ah ≤ bh → bh ≤ ah → ltb al bl ≡ ltb (ah * m + al) (bh * m + bl)
-second-decides m ah al bh bl p q =
-    let e : ah ≡ bh = omega arith in
-    rw e (ltb-same al bl (bh * m + al) (bh * m + bl) (λ h. omega arith) (λ h. omega arith))
+-- the first digits decide, and where they are the same the second
+module _ (m ah al bh bl : ℕ) where
+  pub first-decides : al < m → bl < m → ((ah ≡ bh) → ⊥) → ltb ah bh ≡ ltb (ah * m + al) (bh * m + bl)
+  first-decides p q f = ltb-same ah bh (ah * m + al) (bh * m + bl) (λ h. first-below m ah al bh bl h p) (λ h. le-of-lt (first-below m bh bl ah al (omega arith) q))
+
+  pub second-decides : ah ≡ bh → ltb al bl ≡ ltb (ah * m + al) (bh * m + bl)
+  second-decides e = rw e (ltb-same al bl (bh * m + al) (bh * m + bl) (λ h. omega arith) (λ h. omega arith))
 
 -- the product of two numbers that fit 32 bits fits 64
 pub product-fits : (a b : ℕ) → a < 2 ^ 32 → b < 2 ^ 32 → a * b < 2 ^ 64

@@ -3,4 +3,3 @@ pub mod Signs
 pub mod Bits
 pub mod Divisor
 pub mod Exacts
-pub mod Cuts

@@ -1,11 +1,11 @@
 // Exact products of 64 by 64 bits, their sums and their order: a sign and two words, where the
 // original has an i128.
-use crate::cuts::Cut;
 ghost use mathlib.Core.Path.{_≡_};
 ghost use Prim.Native.Nat.{min, _+_, _-_, _*_, _^_, _<_, _≤_};
 ghost use lib.Dec.{ltb, eqb};
 ghost use lib.IntN.{pos, subℕ, _+ℤ_, _-ℤ_, _*ℤ_};
-ghost use Rattle.numbers.specs.Signs.{withSign, mostOf, inI64, toI64};
+ghost use lib.Signed.{ltZ};
+ghost use Rattle.numbers.specs.Signs.{isNeg, withSign, mostOf, inI64, toI64};
 ghost use Rattle.numbers.specs.Exacts.{sizeOf, wideOf, valueOf, exactOf, orderOf};
 
 // The number hi * 2^64 + lo.
@@ -89,13 +89,7 @@ impl Wide {
         let al = self.lo;
         let bh = b.hi;
         let bl = b.lo;
-        if ah < bh {
-            true
-        } else if bh < ah {
-            false
-        } else {
-            al < bl
-        }
+        if ah == bh { al < bl } else { ah < bh }
     }
 
     // Whether self is 0.
@@ -223,6 +217,23 @@ impl Exact {
         Exact::of_products(a, b, c, true, d)
     }
 
+    // Whether self is below b. Neither is a 0 with a sign.
+    fn below(self, b: Exact) -> bool
+        requires { ⌜ self .neg ≡ isNeg (valueOf self) ⌝ }
+        requires { ⌜ b .neg ≡ isNeg (valueOf b) ⌝ }
+        ensures { λ r. ⌜ r ≡ ltZ (valueOf self) (valueOf b) ⌝ }
+    {
+        let an = self.neg;
+        let bn = b.neg;
+        let p = self.size;
+        let q = b.size;
+        if an == bn {
+            if an { q.below(p) } else { p.below(q) }
+        } else {
+            an
+        }
+    }
+
     // Whether the number is an i64.
     pub fn in_i64(self) -> bool
         ensures { λ r. ⌜ r ≡ inI64 (valueOf self) ⌝ }
@@ -242,12 +253,12 @@ impl Exact {
     }
 }
 
-// Where a * b stands to c * d, by two products in the form of `cuts`.
+// Where a * b stands to c * d.
 pub fn order_of_products(a: i64, b: u32, c: i64, d: u32) -> Order
     ensures { λ r. ⌜ r ≡ orderOf (a *ℤ pos b -ℤ c *ℤ pos d) ⌝ }
 {
-    let x = Cut::product(a, b);
-    let y = Cut::product(c, d);
+    let x = Exact::times(a, false, b as u64);
+    let y = Exact::times(c, false, d as u64);
     let less = x.below(y);
     let more = y.below(x);
     if less {

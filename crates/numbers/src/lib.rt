@@ -8,7 +8,6 @@ ghost use Rattle.numbers.specs.Bits.{signedOf, bitsOf};
 ghost use Rattle.numbers.specs.Divisor.{gcdOf};
 use crate::exact::Wide;
 
-mod cuts;
 pub mod exact;
 
 const MOST: u64 = 0xffff_ffff_ffff_ffff;

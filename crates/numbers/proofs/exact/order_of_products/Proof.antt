@@ -5,42 +5,39 @@ use lib.Signed.{ltZ}
 use mir.Syntax.{w64}
 use mir.ValLaws.{toZ-ofZ}
 use borrow.Author.Needs.{needs}
-use Rattle.numbers.specs.Cuts.{cutValue}
-use Rattle.numbers.proofs.Halves.{is-less, is-greater, is-equal}
+use Rattle.numbers.specs.Exacts.{exactOf}
+use Rattle.numbers.proofs.Exacts.{worked, sign-of}
+use Rattle.numbers.proofs.Orders.{is-less, is-greater, is-equal}
 use Rattle.numbers.proofs.exact.order_of_products.Statement.{statement}
 use Rattle.numbers.proofs.exact.order_of_products.Tie as tie
 
-product-requires : tie.Need-product-requires
-product-requires c κs = search needs
+times-requires : tie.Need-times-requires
+times-requires c κs = search needs
 
-product-requires-2 : tie.Need-product-requires-2
-product-requires-2 c κs = search needs
-
-below-requires : tie.Need-below-requires
-below-requires c κs = search needs
-
-below-requires-2 : tie.Need-below-requires-2
-below-requires-2 c κs = search needs
+times-requires-2 : tie.Need-times-requires-2
+times-requires-2 c κs = search needs
 
 -- the two products
-first : (c : tie.After-product2) → (let s = c .before .before .args in cutValue (c .before .product .result) ≡ s .a *ℤ pos (s .b))
-first c =
-    let s = c .before .before in
-    c .before .product .ensures .0 ∙ ap (λ (z : ℤ). z *ℤ pos (s .args .b)) (toZ-ofZ w64 (s .args .a) (s .fits .a))
+first : (c : tie.After-times) → c .times .result ≡ exactOf (c .before .args .a *ℤ pos (c .before .args .b))
+first c = let s = c .before in c .times .ensures ∙ ap (λ (z : ℤ). exactOf (z *ℤ pos (s .args .b))) (toZ-ofZ w64 (s .args .a) (s .fits .a))
 
-second : (c : tie.After-product2) → (let s = c .before .before .args in cutValue (c .product2 .result) ≡ s .c *ℤ pos (s .d))
-second c =
-    let s = c .before .before in
-    c .product2 .ensures .0 ∙ ap (λ (z : ℤ). z *ℤ pos (s .args .d)) (toZ-ofZ w64 (s .args .c) (s .fits .c))
+second : (c : tie.After-times2) → c .times2 .result ≡ exactOf (c .before .before .args .c *ℤ pos (c .before .before .args .d))
+second c = let s = c .before .before in c .times2 .ensures ∙ ap (λ (z : ℤ). exactOf (z *ℤ pos (s .args .d))) (toZ-ofZ w64 (s .args .c) (s .fits .c))
+
+below-requires : tie.Need-below-requires
+below-requires c κs = (sign-of _ _ (first (c .before)), sign-of _ _ (second c))
+
+below-requires-2 : tie.Need-below-requires-2
+below-requires-2 c κs = (sign-of _ _ (second (c .before)), sign-of _ _ (first (c .before .before)))
 
 -- the two tests
 less : (c : tie.After-below2)
     → (let s = c .before .before .before .before .args in c .before .below .result ≡ ltZ (s .a *ℤ pos (s .b)) (s .c *ℤ pos (s .d)))
-less c = c .before .below .ensures ∙ (λ i. ltZ (first (c .before .before) i) (second (c .before .before) i))
+less c = worked ltZ _ _ _ _ _ (first (c .before .before .before)) (second (c .before .before)) (c .before .below .ensures)
 
 more : (c : tie.After-below2)
     → (let s = c .before .before .before .before .args in c .below2 .result ≡ ltZ (s .c *ℤ pos (s .d)) (s .a *ℤ pos (s .b)))
-more c = c .below2 .ensures ∙ (λ i. ltZ (second (c .before .before) i) (first (c .before .before) i))
+more c = worked ltZ _ _ _ _ _ (second (c .before .before)) (first (c .before .before .before)) (c .below2 .ensures)
 
 returns : tie.Need-returns
 returns c =
@@ -61,8 +58,8 @@ pub order-of-products-spec : {M : Type 1} → statement M
 order-of-products-spec =
     tie.close
     (tie.spec
-    product-requires
-    product-requires-2
+    times-requires
+    times-requires-2
     below-requires
     below-requires-2
     returns

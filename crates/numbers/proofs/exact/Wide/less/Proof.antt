@@ -1,7 +1,8 @@
 -- By digits: where the second word is the smaller, one is borrowed from the first.
+use mathlib.Core.Path.{sym}
 use borrow.Author.Needs.{needs}
 use Prim.Native.Nat.{_+_, _-_, _<_, _≤_, _^_}
-use native.Mathlib.Nat.{le-of-lt, le-of-suc-le-suc, lt-of-le-of-lt, sub-le, sub-pos-iff-lt, le-add-right}
+use native.Mathlib.Nat.{le-of-lt, le-of-suc-le-suc, lt-of-le-of-lt, sub-le, sub-pos-iff-lt, le-add-right, add-sub-of-le}
 use Rattle.numbers.specs.Exacts.{sizeOf}
 use Rattle.numbers.proofs.Words as W
 use Rattle.numbers.proofs.exact.Wide.less.Statement.{statement}
@@ -45,7 +46,7 @@ returns c =
     let a = c .before .args .self in
     let b = c .before .args .b in
     W.words (sizeOf a - sizeOf b) (a .hi - b .hi) (a .lo - b .lo) (lt-of-le-of-lt (sub-le (a .lo) (b .lo)) (a-small (c .before)))
-    (W.less-plain (2 ^ 64) (a .hi) (a .lo) (b .hi) (b .lo) (a .hi - b .hi) (a .lo - b .lo) (W.apart (hi-plain (c .before))) (W.apart (c .if1 .taken)))
+    (W.less-plain (2 ^ 64) (a .hi) (a .lo) (b .hi) (b .lo) (a .hi - b .hi) (a .lo - b .lo) (sym (add-sub-of-le (hi-plain (c .before)))) (sym (add-sub-of-le (c .if1 .taken))))
 
 returns-2 : tie.Need-returns-2
 returns-2 c =
