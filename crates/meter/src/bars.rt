@@ -205,7 +205,11 @@ pub fn start_after(opening: Opening, words: &[u32], default: u32, pickup: Pickup
     ensures { λ r. ⌜ r ≡ startOf (pointsOf (now (words .entry))) default pickup bar ⌝ }
 {
     let ascending = opening.ascending;
-    let one = opening.one;
+    // made anew: the processor waits for a copy of what was just written word by word
+    let first = opening.one;
+    let num = first.num;
+    let den = first.den;
+    let one = Beat { num, den };
     if bar == 0 {
         return Beat::zero();
     }

@@ -5,6 +5,7 @@ use crate::PlayState;
 use crate::Report;
 use crate::Transport;
 use crate::playhead;
+use beats::Beat;
 use meter::Pickup;
 ghost use mathlib.Core.Path.{_≡_};
 ghost use Rattle.numbers.specs.Answers.{accepted};
@@ -29,12 +30,39 @@ pub fn fresh(rate: u32, bpm: f32, beats: u32, length: u64, pickup: Pickup) -> Tr
     }
 }
 
+// A loop and a pickup, made anew: a copy takes along the unused bytes beside their tags, and the
+// processor waits for these where they were just written in words of another size.
+
+fn loop_anew(looping: LoopRange) -> LoopRange
+    ensures { λ r. ⌜ r ≡ looping ⌝ }
+{
+    match looping {
+        LoopRange::Off => LoopRange::Off,
+        LoopRange::On(start, end) => LoopRange::On(start, end),
+    }
+}
+
+fn pickup_anew(pickup: Pickup) -> Pickup
+    ensures { λ r. ⌜ r ≡ pickup ⌝ }
+{
+    match pickup {
+        Pickup::Absent => Pickup::Absent,
+        Pickup::Present(beat) => {
+            let num = beat.num;
+            let den = beat.den;
+            Pickup::Present(Beat { num, den })
+        }
+    }
+}
+
 // The same transport elsewhere. No other function writes a position.
 pub fn moved(t: Transport, position: u64, state: PlayState) -> Transport
     ensures { λ r. ⌜ r ≡ movedTo t position state ⌝ }
 {
-    let looping = t.looping;
-    let pickup = t.pickup;
+    let was_looping = t.looping;
+    let was_pickup = t.pickup;
+    let looping = loop_anew(was_looping);
+    let pickup = pickup_anew(was_pickup);
     Transport {
         sample_rate: t.sample_rate,
         bpm: t.bpm,

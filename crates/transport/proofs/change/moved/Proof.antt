@@ -1,10 +1,27 @@
--- The same fields, but for position and state.
-use mathlib.Core.Path.{refl}
+-- The same fields, but for position and state; loop and pickup are made anew as they were.
+use borrow.Author.Needs.{needs}
 use Rattle.transport.proofs.change.moved.Statement.{statement}
 use Rattle.transport.proofs.change.moved.Tie as tie
 
+loop-anew-requires : tie.Need-loop-anew-requires
+loop-anew-requires c κs = search needs
+
+pickup-anew-requires : tie.Need-pickup-anew-requires
+pickup-anew-requires c κs = search needs
+
 returns : tie.Need-returns
-returns c = refl
+returns c =
+    let s = c .before .before .args in
+    λ i. record {
+      «sample_rate» = s .t .«sample_rate»;
+      bpm = s .t .bpm;
+      «beats_per_bar» = s .t .«beats_per_bar»;
+      length = s .t .length;
+      position = s .position;
+      state = s .state;
+      looping = c .before .loop-anew .ensures i;
+      pickup = c .pickup-anew .ensures i;
+    }
 
 pub moved-spec : {M : Type 1} → statement M
-moved-spec = tie.close (tie.spec returns)
+moved-spec = tie.close (tie.spec loop-anew-requires pickup-anew-requires returns)
