@@ -9,16 +9,18 @@ use lib.Dec.{leb}
 use lib.ListN.{length, length-append}
 use Rattle.numbers.specs.Answers.{Answer, accepted}
 use Rattle.numbers.proofs.Laws.{and-left, and-right, cases}
+use Rattle.meter.specs.Fits.{isAccepted}
 use Rattle.transport.specs.declared.Transport.{Transport}
 use Rattle.transport.specs.Transports.{sound, playing}
 use Rattle.transport.specs.Advances.{advanced}
 use Rattle.lines.specs.Lines.{linesAnswer}
 use Rattle.cues.specs.Sounding.{cues, later}
 use Rattle.cues.specs.CueCall.{cueTest, movedBy, handedBy}
-use Rattle.cues.specs.Promise.{Block, isAccepted, answerTo, next, allAccepted, framesIn, allRoom, Accepting, Promised}
+use Rattle.cues.specs.Promise.{Block, answerTo, next, allAccepted, framesIn, allRoom, Accepting, Promised}
 use Rattle.cues.proofs.Sounding.{cues-on, length-later}
 use Rattle.cues.proofs.Answering.{past-lines}
-use Rattle.cues.proofs.Blocks.{says, rest-sound, rest-reach, by-blocks}
+use Rattle.cues.proofs.Blocks.{stays-sound, says, rest-reach, by-blocks}
+use Rattle.cues.proofs.Exactly.{exactly, ordered}
 
 module _ (lines : List ℕ) (fine : linesAnswer lines ≡ accepted tt) where
   one-accepted : (t : Transport) (block : Block) → sound t ≡ true → t .position + block .frames ≤ 2 ^ 64 - 1 → length (cues lines t (block .frames)) ≤ length (block .out) / 2
@@ -47,11 +49,11 @@ module _ (lines : List ℕ) (fine : linesAnswer lines ≡ accepted tt) where
       let here = leb-true count (length (block .out) / 2) (and-left (leb count (length (block .out) / 2)) (allRoom count rest) room) in
       let ok = one-accepted t block is (omega arith) (omega (arith, both, here)) in
       let s = says lines t block ok in
-      (λ i. ok i && all-accepted count (next lines t block) rest (rest-sound lines t block n is h s) (rest-reach lines t block n is h s)
+      (λ i. ok i && all-accepted count (next lines t block) rest (stays-sound lines t block is) (rest-reach lines t block n is h s)
       (omega (arith, both, ap (λ (u : Transport). length (cues lines u n)) (s .next-is))) (and-right (leb count (length (block .out) / 2)) (allRoom count rest) room) i)
 
 pub accepting : Accepting
 accepting lines t blocks is fine h room = all-accepted lines fine (length (cues lines t (framesIn blocks))) t blocks is h (omega arith) room
 
 pub promised : Promised
-promised = record { by-blocks = by-blocks; accepting = accepting }
+promised = record { by-blocks = by-blocks; exactly = exactly; in-order = ordered; accepting = accepting; stays-sound = stays-sound }

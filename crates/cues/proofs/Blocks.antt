@@ -8,6 +8,7 @@ use native.Mathlib.Omega.{arith}
 use lib.ListN.{length, drop}
 use Rattle.numbers.specs.Answers.{Answer, accepted, refused}
 use Rattle.numbers.proofs.Laws.{and-left, and-right}
+use Rattle.meter.specs.Fits.{isAccepted}
 use Rattle.transport.specs.declared.Transport.{Transport}
 use Rattle.transport.specs.Transports.{sound}
 use Rattle.transport.specs.Changes.{Handed}
@@ -16,16 +17,25 @@ use Rattle.transport.specs.Promise.{Composes}
 use Rattle.transport.proofs.Laws.{advanced-sound, advanced-low, composes}
 use Rattle.cues.specs.Sounding.{Cue, cues, later}
 use Rattle.cues.specs.CueCall.{cueTest, Said, movedBy, handedBy, flat, over, wordsBy}
-use Rattle.cues.specs.Promise.{Block, isAccepted, said, pairsOf, answerTo, saidTo, next, cuesIn}
-use Rattle.cues.specs.Promise.{allAccepted, joinedCues, lastTransport, someWraps, someFinishes, framesIn, ByBlocks}
+use Rattle.cues.specs.Promise.{Block, said, pairsOf, answerTo, saidTo, next, cuesIn}
+use Rattle.cues.specs.Promise.{allAccepted, joinedCues, lastTransport, someWraps, someFinishes, framesIn, ByBlocks, StaysSound}
 use Rattle.cues.proofs.Sounding.{cues-on}
+
+-- ---- a sound transport stays sound
+
+pub stays-sound : StaysSound
+stays-sound lines t block is = by-test (cueTest t lines (block .frames) (block .out))
+  where
+    by-test : (test : Answer Unit) → sound (handedBy t test (movedBy (advanced t (block .frames)) (length (cues lines t (block .frames)))) .transport) ≡ true
+    by-test (accepted u) = advanced-sound t is (block .frames)
+    by-test (refused number facts) = is
+
+-- ---- an accepted call
 
 -- what is written is read back
 read-back : (xs : List Cue) (rest : List ℕ) → pairsOf (length xs) (flat xs ++ rest) ≡ xs
 read-back [] rest = refl
 read-back (x ∷ xs) rest = ap (λ (l : List Cue). x ∷ l) (read-back xs rest)
-
--- ---- an accepted call
 
 module _ (lines : List ℕ) where
   pub record Says (t : Transport) (block : Block) : Type 0 where
@@ -95,12 +105,9 @@ module _ (lines : List ℕ) where
       whole = composes t (block .frames) n h is
 
   -- where a block's call ends, the rest is in reach
-  module _ (t : Transport) (block : Block) (n : ℕ) (is : sound t ≡ true) (h : t .position + (block .frames + n) ≤ 2 ^ 64 - 1) (s : Says t block) where
-    pub rest-sound : sound (next lines t block) ≡ true
-    rest-sound = ap sound (s .next-is) ∙ advanced-sound t is (block .frames)
-
-    pub rest-reach : next lines t block .position + n ≤ 2 ^ 64 - 1
-    rest-reach = omega (arith, ap (λ (u : Transport). u .position) (s .next-is), advanced-low t (block .frames) is)
+  pub rest-reach : (t : Transport) (block : Block) (n : ℕ) → sound t ≡ true → t .position + (block .frames + n) ≤ 2 ^ 64 - 1 → Says t block
+      → next lines t block .position + n ≤ 2 ^ 64 - 1
+  rest-reach t block n is h s = omega (arith, ap (λ (u : Transport). u .position) (s .next-is), advanced-low t (block .frames) is)
 
   joined : (t : Transport) (first : Block) (rest : List Block) → sound t ≡ true → t .position + framesIn (first ∷ rest) ≤ 2 ^ 64 - 1 → allAccepted lines t (first ∷ rest) ≡ true
       → Joined t (framesIn (first ∷ rest)) (first ∷ rest)
@@ -110,7 +117,7 @@ module _ (lines : List ℕ) where
       let s = says t first (and-left (isAccepted (answerTo lines t first .answer)) (allAccepted lines (next lines t first) (second ∷ rest)) ok) in
       let n = framesIn (second ∷ rest) in
       more-blocks t first n (second ∷ rest) is h s
-      (joined (next lines t first) second rest (rest-sound t first n is h s) (rest-reach t first n is h s)
+      (joined (next lines t first) second rest (stays-sound lines t first is) (rest-reach t first n is h s)
       (and-right (isAccepted (answerTo lines t first .answer)) (allAccepted lines (next lines t first) (second ∷ rest)) ok))
 
 -- ---- the promise
@@ -120,6 +127,7 @@ by-blocks lines t whole first rest is same h ok oks =
     let s = says lines t whole ok in
     let j = joined lines t first rest is h oks in
     record {
+      sounded-cues = s .cues-are;
       same-cues = s .cues-are ∙ ap (cues lines t) same ∙ sym (j .cues-are);
       same-end = s .next-is ∙ ap (λ (n : ℕ). advanced t n .transport) same ∙ sym (j .last-is);
       same-wrap = s .wraps-is ∙ ap (λ (n : ℕ). advanced t n .wrapped) same ∙ sym (j .wraps-is);

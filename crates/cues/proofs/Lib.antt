@@ -7,6 +7,7 @@ pub mod Writing
 pub mod Filling
 pub mod Answering
 pub mod Blocks
+pub mod Exactly
 pub mod Accepting
 pub mod Readings
 pub mod Laws

@@ -1,5 +1,5 @@
 -- Demand 3: a run may be cut into blocks. Each block is one cue call, on the transport that the call before handed back; all is stated
--- over what the calls answer and the words that they leave. proofs/Blocks.antt and proofs/Accepting.antt prove it.
+-- over what the calls answer and the words that they leave. proofs/Blocks.antt, proofs/Exactly.antt and proofs/Accepting.antt prove it.
 use mathlib.Core.Path.{_≡_}
 use mathlib.Core.Bool.{Bool, true, false, _&&_, _||_}
 use mathlib.Core.List.{List, [], _∷_, _++_, map}
@@ -7,12 +7,14 @@ use Prim.Native.Nat.{ℕ, zero, suc, _+_, _-_, _/_, _≤_, _^_}
 use lib.Dec.{leb}
 use lib.ListN.{length}
 use Rattle.numbers.specs.Answers.{Answer, accepted, refused}
+use Rattle.meter.specs.Fits.{isAccepted}
 use Rattle.transport.specs.declared.Transport.{Transport}
 use Rattle.transport.specs.Transports.{sound}
 use Rattle.transport.specs.Changes.{Handed}
 use Rattle.lines.specs.Lines.{linesAnswer}
 use Rattle.cues.specs.Sounding.{Cue, cues, later}
 use Rattle.cues.specs.CueCall.{Said, cueAnswer, cueAfter}
+use Rattle.cues.specs.Exactly.{Exactly, Ordered}
 
 -- ---- one call
 
@@ -20,10 +22,6 @@ use Rattle.cues.specs.CueCall.{Said, cueAnswer, cueAfter}
 pub record Block : Type 0 where
   pub frames : ℕ
   pub out : List ℕ
-
-abbrev pub isAccepted : Answer Said → Bool
-isAccepted (accepted said) = true
-isAccepted (refused number facts) = false
 
 -- a refused call says nothing
 abbrev pub said : Answer Said → Said
@@ -77,8 +75,10 @@ module _ (lines : List ℕ) where
 
 -- ---- the whole, and its blocks
 
--- the whole's cues are the blocks' joined, the end transport is the same, and the whole reports a wrap, or a finish, just when some block does
+-- the whole's cues are the run's, which are the bar lines sounded in playing order (`exactly`, `in-order` below), and they are the blocks' joined; the end
+-- transport is the same; and the whole reports a wrap, or a finish, just when some block does
 pub record SameAsBlocks (lines : List ℕ) (t : Transport) (whole : Block) (blocks : List Block) : Type 0 where
+  pub sounded-cues : cuesIn lines t whole ≡ cues lines t (whole .frames)
   pub same-cues : cuesIn lines t whole ≡ joinedCues lines t blocks
   pub same-end : next lines t whole ≡ lastTransport lines t blocks
   pub same-wrap : saidTo lines t whole .wrapped ≡ someWraps lines t blocks
@@ -114,8 +114,17 @@ Accepting = (lines : List ℕ) (t : Transport) (blocks : List Block)
     → allRoom (length (cues lines t (framesIn blocks))) blocks ≡ true
     → allAccepted lines t blocks ≡ true
 
+-- ---- from call to call
+
+-- a sound transport stays sound, whether the call is accepted or refused
+abbrev pub StaysSound : Type 0
+StaysSound = (lines : List ℕ) (t : Transport) (block : Block) → sound t ≡ true → sound (next lines t block) ≡ true
+
 -- ---- the promise
 
 pub record Promised : Type 0 where
   pub by-blocks : ByBlocks
+  pub exactly : Exactly
+  pub in-order : Ordered
   pub accepting : Accepting
+  pub stays-sound : StaysSound

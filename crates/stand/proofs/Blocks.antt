@@ -10,6 +10,7 @@ use lib.Dec.{leb, eqb}
 use lib.ListN.{length, getD}
 use Rattle.numbers.specs.Answers.{Answer, accepted, refused, number}
 use Rattle.numbers.proofs.Laws.{never, and-left, and-right}
+use Rattle.meter.specs.Fits.{isAccepted}
 use Rattle.transport.specs.declared.playhead.Run.{Run}
 use Rattle.transport.specs.declared.Transport.{Transport}
 use Rattle.transport.specs.Transports.{sound, playing}
@@ -17,7 +18,7 @@ use Rattle.transport.specs.Advances.{advanced}
 use Rattle.lines.specs.Lines.{ascends}
 use Rattle.cues.specs.Sounding.{cues, later}
 use Rattle.cues.specs.CueCall.{Said, inReach, roomFor, passing, movedBy, handedBy, cueAfter}
-use Rattle.cues.specs.Promise.{Block, isAccepted, said, pairsOf, answerTo, saidTo, next, cuesIn}
+use Rattle.cues.specs.Promise.{Block, said, pairsOf, answerTo, saidTo, next, cuesIn}
 use Rattle.cues.specs.Promise.{allAccepted, joinedCues, lastTransport, someWraps, someFinishes, framesIn}
 use Rattle.cues.proofs.Laws.{by-blocks, accepting}
 use Rattle.clock_words.specs.Clocks.{clockOf, placed}
@@ -181,6 +182,7 @@ module _ (clock : List ℕ) (long : length clock ≡ 11) (fit : sound (clockOf c
       let r = runs lines (first ∷ rest) clock long oks in
       let b = by-blocks lines (clockOf clock) (whole .block) (first .block) (blocksOf rest) fit same (omega (arith, position-is, reach)) ok oks in
       record {
+        sounded-cues = s .cues-are ∙ b .sounded-cues;
         same-cues = s .cues-are ∙ b .same-cues ∙ sym (r .cues-are);
         same-clock = s .clock-is ∙ ap (placed clock) (b .same-end) ∙ sym (ends lines rest clock first long oks);
         same-wrap = s .wraps-is ∙ b .same-wrap ∙ sym (r .wraps-is);

@@ -10,14 +10,15 @@ use Rattle.numbers.specs.Answers.{Answer, accepted, refused}
 use Rattle.transport.specs.declared.Transport.{Transport}
 use Rattle.transport.specs.Transports.{sound}
 use Rattle.transport.specs.Advances.{advanced}
-use Rattle.transport.proofs.Laws.{advanced-keeps}
+use Rattle.transport.proofs.Laws.{advanced-keeps, stays-sound}
 use Rattle.cues.specs.Sounding.{cues}
 use Rattle.cues.specs.CueCall.{cueTest, movedBy, handedBy}
+use Rattle.cues.proofs.Laws.{stays-sound as cue-sound}
 use Rattle.clock_words.specs.Clocks.{clockWords, clockOf, placed}
-use Rattle.clock_words.proofs.Laws.{wordsOf, no-clock-unsound, reads-placed}
+use Rattle.clock_words.proofs.Laws.{wordsOf, no-clock-unsound, reads-placed, by-words}
 use Rattle.stand.specs.Calls.{advancedBy, cued}
 use Rattle.stand.specs.Words.{clockAfter}
-use Rattle.stand.specs.Promise.{CarriesOn}
+use Rattle.stand.specs.Promise.{Carries, CarriesOn, ClocksStaySound}
 
 -- a test that is passed, behind one that refuses by 12
 passed : (q : Bool) (next : Answer Unit) (u : Unit) → cond q next (refused 12 []) ≡ accepted u → q ≡ true
@@ -63,4 +64,14 @@ carries rate bpm beats length position state loop start end num den =
     record {
       advances = advances rate bpm beats length position state loop start end num den;
       cues = cue rate bpm beats length position state loop start end num den;
+    }
+
+-- what is handed back is sound
+pub stay-sound : ClocksStaySound
+unfolding advancedBy cued
+stay-sound clock long fit =
+    let c = by-words Carries carries clock long in
+    record {
+      advances = λ frames. ap sound (c .advances frames) ∙ stays-sound (clockOf clock) fit .advances frames;
+      cues = λ lines frames out. ap sound (c .cues lines frames out) ∙ cue-sound lines (clockOf clock) (record { frames = frames; out = out }) fit;
     }

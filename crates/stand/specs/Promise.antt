@@ -1,5 +1,6 @@
 -- What is promised of a clock that goes from call to call: its words afterwards are read as the transport that the call hands back, and as the old one
--- where it refuses. And demand 3 over the words of the exported call: a run may be cut into blocks. proofs/Carrying.antt and proofs/Blocks.antt prove it.
+-- where it refuses, so a sound clock stays sound. And demand 3 over the words of the exported call: a run may be cut into blocks. proofs/Carrying.antt and
+-- proofs/Blocks.antt prove it.
 use mathlib.Core.Path.{_≡_}
 use mathlib.Core.Bool.{Bool, true, false, _&&_, _||_}
 use mathlib.Core.List.{List, [], _∷_, _++_, map}
@@ -28,6 +29,14 @@ abbrev pub CarriesOn : Type 0
 CarriesOn =
     (rate bpm beats length position state loop start end num den : ℕ)
     → Carries (rate ∷ bpm ∷ beats ∷ length ∷ position ∷ state ∷ loop ∷ start ∷ end ∷ num ∷ den ∷ [])
+
+-- a sound clock stays sound, whether a call is accepted or refused
+pub record StaysSound (clock : List ℕ) : Type 0 where
+  pub advances : (frames : ℕ) → sound (clockOf (clockAfter clock (advancedBy clock frames))) ≡ true
+  pub cues : (lines : List ℕ) (frames : ℕ) (cues : List ℕ) → sound (clockOf (clockAfter clock (cued clock lines frames cues))) ≡ true
+
+abbrev pub ClocksStaySound : Type 0
+ClocksStaySound = (clock : List ℕ) → length clock ≡ 11 → sound (clockOf clock) ≡ true → StaysSound clock
 
 -- ---- one call of pulleybale_cues
 
@@ -95,9 +104,10 @@ module _ (lines : List ℕ) where
 
 -- ---- the whole, and its blocks
 
--- the whole's cues are the blocks' joined, the clock's words at the end are the same, and the whole's report says that it wrapped, or finished, just when
--- some block's report does
+-- the whole's cues are the run's, which are the bar lines sounded in playing order (`exactly`, `in-order` of cues), and they are the blocks' joined; the
+-- clock's words at the end are the same; and the whole's report says that it wrapped, or finished, just when some block's report does
 pub record SameAsCalls (lines clock : List ℕ) (whole : Call) (calls : List Call) : Type 0 where
+  pub sounded-cues : cuesThen lines clock whole ≡ cues lines (clockOf clock) (whole .block .frames)
   pub same-cues : cuesThen lines clock whole ≡ cuesJoined lines clock calls
   pub same-clock : clockThen lines clock whole ≡ lastClock lines clock calls
   pub same-wrap : saysWrapped (reportThen lines clock whole) ≡ someWrapped lines clock calls
