@@ -19,7 +19,14 @@
  *
  * Maps. A meter map is words, three a point: bar, numerator, denominator. A tempo map is three
  * lists of one length: the numerators and denominators of its beats, and the bits of its tempos in
- * beats a minute. A map may be empty: then the clock's own meter or tempo is in force. */
+ * beats a minute. A map may be empty: then the clock's own meter or tempo is in force.
+ *
+ * Scores that fit. No call refuses a map for what its points say. The answers are those that a
+ * musician expects where the score fits: the meter map has at most 256 points, the first at bar 0,
+ * each bar above the one before, numerators of 1 or more, denominators 1, 2, 4 .. 64; the pickup is
+ * none or at least 0; and no sum overflows on the way to any bar up to 2^31. For the last it is
+ * enough that numerators and beats a bar are at most 4,096 and a pickup is at most 2^45 with a
+ * denominator of at most 64. */
 #ifndef PULLEYBALE_H
 #define PULLEYBALE_H
 
@@ -70,13 +77,16 @@ static inline pulleybale_clock pulleybale_clock_of(uint32_t rate, float bpm, uin
     return clock;
 }
 
-/* How many bars have gone by at the beat num/den, into *bars. `beats` is the meter where no point
- * is in force; a pickup of 0/0 is none. Refuses by 3, 4, 1. */
+/* How many bars have gone by at the beat num/den, into *bars: the first bar that starts at or after
+ * it, where the score fits; 4294967295 where bar 2^31 still starts before it. `beats` is the meter
+ * where no point is in force; a pickup of 0/0 is none. Refuses by 3, 4, 1. */
 uint32_t pulleybale_count(const uint32_t *meter, size_t meter_len, uint32_t beats,
                           int64_t pickup_num, uint32_t pickup_den,
                           int64_t num, uint32_t den, uint32_t *bars);
 
-/* The beat at which a bar starts, into *num and *den. Refuses by 3, 4, 1. */
+/* The beat at which a bar starts, into *num and *den. A sum that overflows on the way, as it may
+ * where the score does not fit, counts as 9223372036854775807/1, and so the answer may be this:
+ * no refusal tells it. Refuses by 3, 4, 1. */
 uint32_t pulleybale_start(const uint32_t *meter, size_t meter_len, uint32_t beats,
                           int64_t pickup_num, uint32_t pickup_den,
                           uint32_t bar, int64_t *num, uint32_t *den);
@@ -86,8 +96,11 @@ uint32_t pulleybale_frame(const pulleybale_clock *clock, const uint32_t *meter, 
                           const int64_t *nums, size_t nums_len, const uint32_t *dens, size_t dens_len,
                           const uint32_t *tempos, size_t tempos_len, uint32_t bar, uint64_t *frame);
 
-/* The frames of the bars from 0 on: fills all of `lines`, entry k with the frame of bar k.
- * Refuses by 12, 3, 4, 1. */
+/* The frames of the bars from 0 on: fills all of `lines`, entry k with the frame of bar k. No line
+ * is less than the one before where the score fits and the tempo map has at most 1,024 points, their
+ * tempos finite and above 0, their beats rising from 0 with numerators of at most 2^53 (where it has
+ * none: the clock's own tempo is finite). Other lines may descend, and then pulleybale_cues refuses
+ * them by 11. Refuses by 12, 3, 4, 1. */
 uint32_t pulleybale_fill_lines(const pulleybale_clock *clock, const uint32_t *meter, size_t meter_len,
                                const int64_t *nums, size_t nums_len, const uint32_t *dens, size_t dens_len,
                                const uint32_t *tempos, size_t tempos_len, uint64_t *lines, size_t lines_len);
