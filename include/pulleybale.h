@@ -21,10 +21,10 @@
  * lists of one length: the numerators and denominators of its beats, and the bits of its tempos in
  * beats a minute. A map may be empty: then the clock's own meter or tempo is in force.
  *
- * Scores that fit. No call refuses a map for what its points say. The answers are those that a
- * musician expects where the score fits: the meter map has at most 256 points, the first at bar 0,
- * each bar above the one before, numerators of 1 or more, denominators 1, 2, 4 .. 64; the pickup is
- * none or at least 0; and no sum overflows on the way to any bar up to 2^31. For the last it is
+ * Scores that fit. No call refuses a meter map for what its points say. Its bars are where they
+ * should be where the score fits: the meter map has at most 256 points, the first at bar 0, each bar
+ * above the one before, numerators of 1 or more, denominators 1, 2, 4 .. 64; the pickup is none or
+ * at least 0; and no sum or product overflows on the way to any bar up to 2^31. For the last it is
  * enough that numerators and beats a bar are at most 4,096 and a pickup is at most 2^45 with a
  * denominator of at most 64. */
 #ifndef PULLEYBALE_H
