@@ -12,6 +12,8 @@ pub use Rattle.beats.proofs.Refusing.{beat-above, beat-lowest}
 pub use Rattle.beats.proofs.Refusing.{not-fine, is-fine}
 -- an accepted sum, difference or multiple is a beat and has the exact value
 pub use Rattle.beats.proofs.Values.{accepted-is, accepted-beat, accepted-value, cross, sum-value, difference-value, multiple-value, scaled-value}
+-- and stays within the limits
+pub use Rattle.beats.proofs.Values.{accepted-storable}
 -- refused by 2 exactly where the two numbers do not fit as they stand
 pub use Rattle.beats.proofs.Values.{accepted-fits, refused-unfit}
 pub use Rattle.beats.proofs.Fitted.{fit, unfit}

@@ -1,16 +1,19 @@
 -- A new beat is in lowest terms and has the fraction's value, and a beat is its value: equal fractions have one beat.
 use mathlib.Core.Path.{_≡_, refl, sym, ap, _∙_, subst}
-use mathlib.Core.Bool.{true}
-use Prim.Native.Nat.{ℕ, suc, max, _*_, _/_, _<_, _∣_}
-use native.Mathlib.Nat.{zero-div, div-self, div-one, le-div-iff-mul-le, div-mul-cancel, dvd-mul-left, mul-assoc, mul-right-comm}
+use mathlib.Core.Bool.{Bool, true, _&&_}
+use Prim.Native.Nat.{ℕ, suc, max, _*_, _/_, _≤_, _<_, _∣_}
+use native.Mathlib.Nat.{le-trans, zero-div, div-self, div-one, div-le-self, le-div-iff-mul-le, div-mul-cancel, dvd-mul-left, mul-assoc, mul-right-comm}
 use native.Mathlib.Omega.{arith}
+use lib.Dec.{leb}
 use lib.IntN.{ℤ, pos, negsuc, negℤ, natAbs, _*ℤ_}
-use lib.Signed.{quotZ}
+use lib.Signed.{mag, quotZ}
+use borrow.Author.Tests.{leb-true, le-leb}
 use Rattle.numbers.specs.Divisor.{gcdOf}
-use Rattle.numbers.specs.Signs.{isNeg, withSign}
-use Rattle.numbers.proofs.Laws.{gcd-left, gcd-right, gcd-pos, gcd-le, gcd-over, gcd-of-zero, euclid, same-den, same-num, abs-sign, sign-abs, abs-times, neg-times, minus-times}
+use Rattle.numbers.specs.Signs.{isNeg, withSign, inI64}
+use Rattle.numbers.proofs.Laws.{gcd-left, gcd-right, gcd-pos, gcd-le, gcd-over, gcd-of-zero, euclid, same-den, same-num, abs-sign, sign-abs, abs-times, neg-times, minus-times, mag-quot, and-left, and-right}
 use Rattle.beats.specs.declared.Beat.{Beat}
 use Rattle.beats.specs.Beats.{lowest, newBeat}
+use Rattle.beats.specs.Sums.{storable}
 
 -- ---- lowest terms
 
@@ -25,6 +28,26 @@ lowest-terms n d = rw (abs-quot n (gcdOf (natAbs n) (max d 1))) (gcd-over (natAb
 pub den-pos : (n : ℤ) (d : ℕ) → 0 < newBeat n d .den
 unfolding newBeat lowest
 den-pos n d = le-div-iff-mul-le (gcd-pos (natAbs n) (max d 1) (omega arith)) .1 (omega (arith, gcd-le (natAbs n) (max d 1) (omega arith)))
+
+-- ---- reducing only shrinks
+
+from-mag : (z : ℤ) → mag z ≤ 9223372036854775807 → inI64 z ≡ true
+from-mag (pos n) h = le-leb n 9223372036854775807 h
+from-mag (negsuc n) h = ap (λ (b : Bool). b && true) (le-leb n 9223372036854775807 h)
+
+to-mag : (z : ℤ) → inI64 z ≡ true → mag z ≤ 9223372036854775807
+to-mag (pos n) e = leb-true n 9223372036854775807 e
+to-mag (negsuc n) e = leb-true n 9223372036854775807 (and-left (leb n 9223372036854775807) true e)
+
+-- two numbers that can be stored can be stored in lowest terms
+pub new-storable : (n : ℤ) (d : ℕ) → storable n d ≡ true → storable (newBeat n d .num) (newBeat n d .den) ≡ true
+unfolding newBeat lowest
+new-storable n d e =
+    let g = gcdOf (natAbs n) (max d 1) in
+    let l : d ≤ 4294967295 = leb-true d 4294967295 (and-right (inI64 n) (leb d 4294967295) e) in
+    let num = from-mag (quotZ n (pos g)) (le-trans (mag-quot n g) (to-mag n (and-left (inI64 n) (leb d 4294967295) e))) in
+    let den = le-leb (max d 1 / g) 4294967295 (le-trans (div-le-self (max d 1) g) (omega arith)) in
+    λ i. num i && den i
 
 -- ---- the same value
 

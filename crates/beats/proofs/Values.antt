@@ -14,7 +14,7 @@ use Rattle.beats.specs.declared.Beat.{Beat}
 use Rattle.beats.specs.Beats.{newBeat, isBeat}
 use Rattle.beats.specs.Sums.{storable, fitted, addBeats, subBeats, mulBeat}
 use Rattle.beats.specs.Values.{Worth}
-use Rattle.beats.proofs.Lowest.{lowest-terms, den-pos, same-value, stays, same-beat}
+use Rattle.beats.proofs.Lowest.{lowest-terms, den-pos, new-storable, same-value, stays, same-beat}
 use Rattle.beats.proofs.Refusing.{beat-above, beat-lowest}
 
 -- ---- what `new` makes
@@ -87,6 +87,10 @@ module _ (num : ℤ) (den : ℕ) where
 
   pub accepted-beat : (c : Beat) → fitted num den ≡ accepted c → isBeat c ≡ true
   accepted-beat c e = ap isBeat (accepted-is c e) ∙ new-is-beat num den
+
+  -- it stays within the limits, since reducing only shrinks
+  pub accepted-storable : (c : Beat) → fitted num den ≡ accepted c → storable (c .num) (c .den) ≡ true
+  accepted-storable c e = ap (λ (b : Beat). storable (b .num) (b .den)) (accepted-is c e) ∙ new-storable num den (accepted-fits c e)
 
   pub accepted-value : (c : Beat) → 0 < den → fitted num den ≡ accepted c → Worth c num den
   accepted-value c above e = subst (λ (b : Beat). Worth b num den) (sym (accepted-is c e)) (new-value num den above)

@@ -11,9 +11,9 @@ use Rattle.numbers.specs.Answers.{Answer, accepted, refused}
 use Rattle.numbers.proofs.Laws.{by-order, down, eq-parts, sum-parts, up-times, down-times, and-left, and-right, not-both, not-negative, grows}
 use Rattle.beats.specs.declared.Beat.{Beat}
 use Rattle.beats.specs.Beats.{isBeat}
-use Rattle.beats.specs.Sums.{addBeats, mulBeat, orMost, belowBeat, sumOf}
+use Rattle.beats.specs.Sums.{storable, addBeats, mulBeat, orMost, belowBeat, sumOf}
 use Rattle.beats.specs.Values.{Worth}
-use Rattle.beats.proofs.Laws.{new-is-beat, own-value, one-beat, beat-above, accepted-beat, sum-value, scaled-value, same-value, value-forward, zero-beat, own-value-left, sum-beat, sum-is, sum-has, below-values, below-same, not-below}
+use Rattle.beats.proofs.Laws.{new-is-beat, own-value, one-beat, beat-above, accepted-beat, accepted-storable, sum-value, scaled-value, same-value, value-forward, zero-beat, own-value-left, sum-beat, sum-is, sum-has, below-values, below-same, not-below}
 use Rattle.meter.specs.declared.MeterPoint.{MeterPoint}
 use Rattle.meter.specs.declared.Pickup.{Pickup}
 use Rattle.meter.specs.declared.Pickup.the-variants.{Absent, Present}
@@ -155,6 +155,43 @@ module _ (map : List MeterPoint) (default : ℕ) (pickup : Pickup) where
     where
       by-answer : (x : Answer Beat) → checkedStart map default pickup bar ≡ x → isAccepted x ≡ true → startOf map default pickup bar ≡ exact bar
       by-answer (accepted b) p q = let w = start-accepted bar b p in w .0 ∙ w .1
+      by-answer (refused n facts) p q = not-both false q refl
+
+  -- ---- what is accepted can be stored
+
+  abbrev Stored : Beat → Type 0
+  Stored b = storable (b .num) (b .den) ≡ true
+
+  bars-stored : (at each c : Beat) (n : ℕ) → checkedBars at each n ≡ accepted c → Stored c
+  unfolding checkedBars
+  bars-stored at each c n e = then-accepted (mulBeat each (pos n) 1) (λ span. addBeats at span) c e (λ span p q. accepted-storable _ _ c q)
+
+  segments-stored : (most bar end : ℕ) (at b : Beat) → Stored at → checkedSegments map default pickup most bar end at ≡ accepted b → Stored b
+  unfolding checkedSegments
+  segments-stored zero bar end at b s e = let r : at ≡ b = cc in subst Stored r s
+  segments-stored (suc most) bar end at b s e =
+      by-order bar end
+      (λ l. then-accepted (checkedBars at (len bar) (nextChange map bar end - bar)) (λ there. checkedSegments map default pickup most (nextChange map bar end) end there) b
+      (sym (checked-more map default pickup most bar end at l) ∙ e)
+      (λ c r t. segments-stored most (nextChange map bar end) end c b (bars-stored at (len bar) c (nextChange map bar end - bar) r) t))
+      (λ l. subst Stored (same (checked-end map default pickup most bar end at l)) s)
+    where
+      same : checkedSegments map default pickup (suc most) bar end at ≡ accepted at → at ≡ b
+      same r = cc
+
+  stored-accepted : (bar : ℕ) (b : Beat) → checkedStart map default pickup bar ≡ accepted b → Stored b
+  unfolding checkedStart
+  stored-accepted zero b e = let r : zeroBeat ≡ b = cc in subst Stored r refl
+  stored-accepted (suc bar) b e =
+      then-accepted (addBeats zeroBeat (len 0)) (λ one. checkedSegments map default pickup (suc bar) 1 (suc bar) one) b e
+      (λ one p q. segments-stored (suc bar) 1 (suc bar) one b (accepted-storable _ _ one p) q)
+
+  -- such a start is within the limits of a beat: the test for overflow comes before the reduction, which only shrinks
+  pub start-stored : (bar : ℕ) → isAccepted (checkedStart map default pickup bar) ≡ true → storable (startOf map default pickup bar .num) (startOf map default pickup bar .den) ≡ true
+  start-stored bar e = by-answer (checkedStart map default pickup bar) refl e
+    where
+      by-answer : (x : Answer Beat) → checkedStart map default pickup bar ≡ x → isAccepted x ≡ true → Stored (startOf map default pickup bar)
+      by-answer (accepted b) p q = subst Stored (sym (start-accepted bar b p .0)) (stored-accepted bar b p)
       by-answer (refused n facts) p q = not-both false q refl
 
 -- ---- starts never fall, where the pickup is not below 0

@@ -13,7 +13,7 @@ use Rattle.numbers.specs.Answers.{Answer, accepted}
 use Rattle.numbers.proofs.Laws.{by-order, and-left, not-both}
 use Rattle.beats.specs.declared.Beat.{Beat}
 use Rattle.beats.specs.Beats.{isBeat}
-use Rattle.beats.specs.Sums.{belowBeat}
+use Rattle.beats.specs.Sums.{storable, belowBeat}
 use Rattle.beats.proofs.Laws.{is-fine}
 use Rattle.meter.specs.declared.MeterPoint.{MeterPoint}
 use Rattle.meter.specs.declared.Pickup.{Pickup}
@@ -27,13 +27,17 @@ use Rattle.meter.specs.Answers.{ifMap, ifPickup, countAnswer}
 use Rattle.meter.specs.Promise.{arrives, FirstBar, CountPromise}
 use Rattle.meter.proofs.Scanning.{points-length}
 use Rattle.meter.proofs.Counting.{Rising, count-least, count-past}
-use Rattle.meter.proofs.Exactness.{exact-beat, start-exact, starts-rise}
+use Rattle.meter.proofs.Exactness.{exact-beat, start-exact, start-stored, starts-rise}
 use Rattle.meter.proofs.Readings.{counts-apart}
 
 module _ (map : List MeterPoint) (default : ℕ) (pickup : Pickup) (fits : Fits map default pickup) where
   -- each start is the sum of the lengths before it
   pub fit-exact : (bar : ℕ) → bar ≤ 2147483648 → startOf map default pickup bar ≡ exactStart map default pickup bar
   fit-exact bar h = start-exact map default pickup bar (fits .walks bar h)
+
+  -- and within the limits of a beat
+  pub fit-stored : (bar : ℕ) → bar ≤ 2147483648 → storable (startOf map default pickup bar .num) (startOf map default pickup bar .den) ≡ true
+  fit-stored bar h = start-stored map default pickup bar (fits .walks bar h)
 
   pub fit-rising : Rising (startOf map default pickup)
   fit-rising =

@@ -15,9 +15,9 @@ pub use Rattle.meter.proofs.Exactness.{exact-beat, start-exact, starts-
 -- the walk that is refused as soon as one of its operations is, a step at a time, and the lengths that it starts with
 pub use Rattle.meter.proofs.Walking.{checked-end, checked-more}
 pub use Rattle.meter.proofs.Exactness.{then-accepted, forward-beat, forward-len}
--- each start of a score that fits is that sum, and the count is the first bar that starts at or after the beat
+-- each start of a score that fits is that sum, within the limits of a beat, and the count is the first bar that starts at or after the beat
 pub use Rattle.meter.proofs.Counting.{Rising}
-pub use Rattle.meter.proofs.Fitting.{fit-exact, fit-rising, fit-least, fit-past, fit-first, count-keeps}
+pub use Rattle.meter.proofs.Fitting.{fit-exact, fit-stored, fit-rising, fit-least, fit-past, fit-first, count-keeps}
 -- a bar of a meter without problems lasts a number of sixteenths
 pub use Rattle.meter.proofs.Bounds.{sixteenths, good-len}
 -- bounds that suffice for a score to fit
