@@ -6,14 +6,15 @@ use Prim.Native.Nat.{ℕ, zero, suc, _+_, _*_, _^_, _≤_, _<_}
 use native.Mathlib.Nat.{le-trans}
 use native.Mathlib.Omega.{arith}
 use borrow.Author.Tests.{le-leb, ltb-false}
-use lib.Dec.{T, lit<, lit≤}
-use lib.IntN.{ℤ, pos, natAbs, _*ℤ_}
-use lib.Signed.{ltZ}
+use lib.Dec.{T, leb, lit<, lit≤}
+use lib.IntN.{ℤ, pos, negsuc, natAbs, _*ℤ_}
+use lib.Signed.{ltZ, leZ}
 use lib.Ieee.{Float, inf, le}
 use lib.Ieee.Scale.{finite}
 use lib.ListN.{length}
 use Rattle.numbers.specs.Answers.{Answer, accepted}
-use Rattle.numbers.proofs.Laws.{by-order}
+use Rattle.numbers.specs.Signs.{inI64}
+use Rattle.numbers.proofs.Laws.{by-order, both, and-right}
 use Rattle.rounding.specs.Floats.{float0, float1}
 use Rattle.rounding.proofs.Laws.{max-positive, Up, up→le}
 use Rattle.beats.specs.declared.Beat.{Beat}
@@ -23,7 +24,7 @@ use Rattle.beats.specs.Frames.{beatFloat}
 use Rattle.beats.proofs.Laws.{beat-above}
 use Rattle.meter.specs.Meters.{pointsOf}
 use Rattle.meter.specs.Starts.{zeroBeat, startOf, exactStart}
-use Rattle.meter.proofs.Laws.{fit-rising, fit-exact, start-zero}
+use Rattle.meter.proofs.Laws.{fit-rising, fit-exact, fit-stored, start-zero}
 use Rattle.tempo.specs.declared.MapTest.the-variants.{Sound}
 use Rattle.tempo.specs.Answers.{mapTest}
 use Rattle.tempo.specs.Tempos.{TempoPoint, tempoPoints}
@@ -38,7 +39,7 @@ use Rattle.filler.specs.Fills.{entries, barLines, newOr}
 use Rattle.filler.specs.Promise.{InOrder, LinesPromise}
 use Rattle.filler.proofs.Filling.{entries-length}
 use Rattle.filler.proofs.Testing.{accepted-known}
-use Rattle.filler.proofs.Ordering.{Placed, placed-zero, beat-zero, frames-up}
+use Rattle.filler.proofs.Ordering.{Placed, smallBeat, placed-zero, beat-zero, frames-up}
 use Rattle.filler.proofs.Wide.{Dyadic, wide-finite, wide-zero, dyadic-up}
 use Rattle.filler.proofs.Sixteenths.{starts-dyadic}
 use Rattle.filler.proofs.Rising.{map-rises}
@@ -54,7 +55,7 @@ seconds-of-up bpm (first ∷ rest) f r a b A B h u = seconds-at-up (first ∷ re
 
 -- ---- lines
 
-module _ (t : Transport) (words : List ℕ) (nums : List ℤ) (dens tempos : List ℕ) (n : ℕ) (o : InOrder t words nums dens tempos n) (m : mapTest nums dens tempos ≡ Sound) (few : n ≤ 65536) where
+module _ (t : Transport) (words : List ℕ) (nums : List ℤ) (dens tempos : List ℕ) (n : ℕ) (o : InOrder t words nums dens tempos) (m : mapTest nums dens tempos ≡ Sound) (few : n ≤ 65536) where
   abbrev start : ℕ → Beat
   start bar = startOf (pointsOf words) (t .«beats_per_bar») (t .pickup) bar
 
@@ -72,8 +73,14 @@ module _ (t : Transport) (words : List ℕ) (nums : List ℤ) (dens tempos : Lis
   abbrev limit : ℕ
   limit = 9223372036854775807
 
+  start-small : (bar : ℕ) → bar < n → smallBeat limit (start bar) ≡ true
+  start-small bar l =
+      let stored = both (inI64 (start bar .num)) (leb (start bar .den) 4294967295) (fit-stored (pointsOf words) (t .«beats_per_bar») (t .pickup) (o .fits) bar (omega arith)) in
+      let num = and-right (leZ (negsuc limit) (start bar .num)) (leZ (start bar .num) (pos limit)) (stored .0) in
+      λ i. num i && stored .1 i
+
   start-placed : (bar : ℕ) → bar < n → Placed limit (start bar)
-  start-placed bar l = placed-zero limit (start bar) (beat-above (start bar) (beats bar l)) (o .starts bar l) (ap (belowBeat (start bar)) start-zero-is ∙ in-turn 0 bar (omega arith) l)
+  start-placed bar l = placed-zero limit (start bar) (beat-above (start bar) (beats bar l)) (start-small bar l) (ap (belowBeat (start bar)) start-zero-is ∙ in-turn 0 bar (omega arith) l)
 
   module _ (bar : ℕ) (l : bar < n) where
     abbrev placed : Placed limit (start bar)
@@ -138,8 +145,8 @@ module _ (t : Transport) (words : List ℕ) (nums : List ℤ) (dens tempos : Lis
       let a = floatOf (start i) in
       let b = floatOf (start j) in
       rw (bar-frame t (pointsOf words) points i, bar-frame t (pointsOf words) points j)
-      (frames-up (secondsOf (t .bpm) points a) (secondsOf (t .bpm) points b) (t .«sample_rate») (le-trans (o .rate) (lit≤ tt))
-      (seconds-of-up (t .bpm) points (o .finite) (map-rises nums dens tempos (tempo.sound nums dens tempos m .beats) (o .sound) (o .points)) a b
+      (frames-up (secondsOf (t .bpm) points a) (secondsOf (t .bpm) points b) (t .«sample_rate»)
+      (seconds-of-up (t .bpm) points (o .finite) (map-rises nums dens tempos (tempo.sound nums dens tempos m .beats) (o .sound) (o .small)) a b
       (start-finite i (omega arith)) (start-finite j l) (from-zero i (omega arith)) (start-up i j h l)))
 
 -- ---- a list of entries that do not fall

@@ -1,54 +1,79 @@
 -- From seconds that do not fall to frames that do not fall, and from beats in exact order to floats in order.
 use mathlib.Core.Path.{_≡_, refl, sym, ap, _∙_, subst}
-use mathlib.Core.Bool.{Bool, true, false}
-use Prim.Native.Nat.{ℕ, zero, suc, _*_, _^_, _≤_, _<_}
-use native.Mathlib.Nat.{le-of-eq, le-trans, mul-pos, mul-one, mul-le-mul-left}
+use mathlib.Core.Bool.{Bool, true, false, _&&_}
+use Prim.Native.Nat.{ℕ, zero, suc, _-_, _*_, _^_, _≤_, _<_, zero-le}
+use native.Mathlib.Nat.{le-refl, le-of-eq, le-trans, not-le-of-lt, mul-pos, mul-one, mul-le-mul-left, zero-mul}
 use native.Mathlib.Omega.{arith}
 use lib.IntN.{ℤ, pos, negsuc, _*ℤ_}
 use lib.Signed.{ltZ, leZ}
-use lib.Dec.{T, leb, lit<, lit≤}
+use lib.Dec.{T, leb, ltb, ltb→lt, lt→ltb, lit<, lit≤}
 use borrow.Author.Tests.{ltb-true, ltb-false, leb-true}
-use lib.Ieee.{Float, nan, inf, fin, Format, prec, binary64, up, down, round, mul, div, ofInt, toUnsigned}
-use lib.Ieee.Fits.{down-pos}
+use lib.Ieee.{Float, nan, inf, fin, binary64, up, down, round, mul, div, ofInt, toUnsigned}
+use lib.Ieee.Fits.{up-pos, down-pos}
 use lib.Ieee.Exact.{HasValue}
 use lib.Ieee.Back.{round-whole}
 use lib.Ieee.Scale.{round-same, finite}
-use lib.Ieee.Positive.{positive, positive-of-value}
 use Rattle.numbers.proofs.Laws.{lt-parts, parts-lt, up-times, down-times, and-left, and-right}
 use Rattle.rounding.specs.Floats.{roundAway, float0}
-use Rattle.rounding.proofs.Laws.{quotient-is, round-rises, Up, up-right, up→le, mul-up, round-up}
+use Rattle.rounding.proofs.Laws.{quotient-is, round-rises, Up, up→le, not-zero, mul-up, round-own, round-up}
 use Rattle.beats.specs.declared.Beat.{Beat}
 use Rattle.beats.specs.Beats.{wholeBeat}
 use Rattle.beats.specs.Sums.{belowBeat}
 use Rattle.beats.specs.Frames.{beatFloat, framesAt}
-use Rattle.filler.specs.Promise.{smallBeat}
 
 -- ---- seconds times the rate
 
--- a whole number that the format counts is above zero as a float
-int-positive : (f : Format) (n : ℕ) → 0 < n → n ≤ 2 ^ prec f → T (positive (ofInt f (pos n)))
-unfolding ofInt
-int-positive f n h l = positive-of-value (round f false n 1) n 1 (round-whole f false n l) h
+abbrev framesBy : Float → Float → ℕ
+framesBy seconds rate = toUnsigned 64 (roundAway (mul binary64 seconds rate))
 
--- at the rate 0 every frame is 0
-none : (x y : Float) → Up x y → framesAt x 0 ≡ 0
-unfolding ofInt mul toUnsigned roundAway
-none nan y h = absurd h
-none (inf true) y h = absurd h
-none (inf false) y h = refl
-none (fin true m e) y h = absurd h
-none (fin false m e) y h =
-    ap (λ (z : Float). toUnsigned 64 (roundAway z)) (round-same binary64 false (m * up e * (0 * 1)) (down e * 1) 0 1 (mul-pos (down-pos e) (lit< tt)) (lit< tt) (go (m * up e) (down e * 1)))
+-- at the rate 0 every frame is 0, that of an infinity too, which times 0 is a NaN
+none : (x y : Float) (g : ℤ) → Up x y → framesBy x (fin false 0 g) ≡ 0
+unfolding mul toUnsigned roundAway round
+none nan y g h = absurd h
+none (inf true) y g h = absurd h
+none (inf false) y g h = refl
+none (fin true m e) y g h = absurd h
+none (fin false m e) y g h =
+    ap (λ (z : Float). toUnsigned 64 (roundAway z)) (round-same binary64 false (m * up e * (0 * up g)) (down e * down g) 0 1 (mul-pos (down-pos e) (down-pos g)) (lit< tt) (go (m * up e) (up g) (down e * down g)))
   where
-    go : (a b : ℕ) → a * (0 * 1) * 1 ≡ 0 * b
-    go a b = omega arith
+    go : (a b c : ℕ) → a * (0 * b) * 1 ≡ 0 * c
+    go a b c = omega arith
 
-pub frames-up : (x y : Float) (rate : ℕ) → rate ≤ 2 ^ 53 → Up x y → framesAt x rate ≤ framesAt y rate
-frames-up x y zero l h = le-of-eq (none x y h ∙ sym (none y y (up-right x y h)))
-frames-up x y (suc r) l h =
-    let rate = ofInt binary64 (pos (suc r)) in
-    round-rises 64 (mul binary64 x rate) (mul binary64 y rate)
-    (up→le (mul binary64 x rate) (mul binary64 y rate) (mul-up binary64 x y rate (int-positive binary64 (suc r) (omega arith) l) h))
+above : (n : ℕ) → T (ltb 0 (suc n))
+above n = lt→ltb 0 (suc n) (omega arith)
+
+-- at an infinite one a second is 2 ^ 64 - 1 frames, and none are 0
+unbounded : (x y : Float) → Up x y → framesBy x (inf false) ≤ framesBy y (inf false)
+unfolding mul toUnsigned roundAway
+unbounded nan y h = absurd h
+unbounded (inf true) y h = absurd h
+unbounded (inf false) nan h = absurd h
+unbounded (inf false) (inf true) h = absurd h
+unbounded (inf false) (inf false) h = le-refl (2 ^ 64 - 1)
+unbounded (inf false) (fin t n d) h = absurd h
+unbounded (fin true m e) y h = absurd h
+unbounded (fin false zero e) y h = zero-le
+unbounded (fin false (suc m) e) nan h = absurd h
+unbounded (fin false (suc m) e) (inf true) h = absurd h
+unbounded (fin false (suc m) e) (inf false) h = rw (not-zero (suc m) (above m)) (le-refl (2 ^ 64 - 1))
+unbounded (fin false (suc m) e) (fin true n d) h = absurd h
+unbounded (fin false (suc m) e) (fin false zero d) h =
+    absurd (not-le-of-lt (mul-pos (mul-pos (ltb→lt 0 (suc m) (above m)) (up-pos e)) (down-pos d)) (le-trans h (le-of-eq (ap (λ (z : ℕ). z * down e) (zero-mul (up d)) ∙ zero-mul (down e)))))
+unbounded (fin false (suc m) e) (fin false (suc n) d) h = rw (not-zero (suc m) (above m), not-zero (suc n) (above n)) (le-refl (2 ^ 64 - 1))
+
+by-rate : (x y rate : Float) → Up rate rate → Up x y → framesBy x rate ≤ framesBy y rate
+by-rate x y nan r h = absurd r
+by-rate x y (inf true) r h = absurd r
+by-rate x y (inf false) r h = unbounded x y h
+by-rate x y (fin true o g) r h = absurd r
+by-rate x y (fin false zero g) r h = le-trans (le-of-eq (none x y g h)) zero-le
+by-rate x y (fin false (suc o) g) r h =
+    let rate = fin false (suc o) g in
+    round-rises 64 (mul binary64 x rate) (mul binary64 y rate) (up→le (mul binary64 x rate) (mul binary64 y rate) (mul-up binary64 x y rate (above o) h))
+
+pub frames-up : (x y : Float) (rate : ℕ) → Up x y → framesAt x rate ≤ framesAt y rate
+unfolding ofInt
+frames-up x y rate h = by-rate x y (round binary64 false rate 1) (round-own binary64 rate 1) h
 
 -- ---- beats
 
@@ -126,6 +151,10 @@ module _ (a b : Beat) (p : Placed exactly a) (q : Placed exactly b) where
       placed-cross (omega arith)
 
 -- ---- which beats are
+
+-- a numerator of at most `most` and a denominator of 32 bits
+abbrev pub smallBeat : ℕ → Beat → Bool
+smallBeat most beat = leZ (beat .num) (pos most) && leb (beat .den) 4294967295
 
 module _ (most : ℕ) (a : Beat) (d : 0 < a .den) (s : smallBeat most a ≡ true) where
   placed-unless : ((n : ℕ) → a .num ≡ negsuc n → ⊥) → Placed most a

@@ -21,8 +21,8 @@ use Rattle.tempo.specs.Tempos.{tempoOf, tempoPoints}
 use Rattle.tempo.specs.Rising.{Follows, RisingFrom, RisingMap}
 use Rattle.tempo.proofs.Laws.{finite-tempo}
 use Rattle.problems.specs.Problems.{problemIf, Listed, listed, soundTempo, tempoBits, tempoPointsAfter, tempoProblems}
-use Rattle.filler.specs.Promise.{smallBeat, allSmall}
-use Rattle.filler.proofs.Ordering.{Placed, exactly, zero-placed, placed-finite, placed-up, placed-below, placed-zero, placed-after, beat-zero}
+use Rattle.filler.specs.Promise.{allSmall}
+use Rattle.filler.proofs.Ordering.{Placed, exactly, zero-placed, placed-finite, placed-up, placed-below, smallBeat, placed-zero, placed-after, beat-zero}
 
 -- ---- a list of problems that is empty
 

@@ -2,47 +2,36 @@
 use mathlib.Core.Bool.{Bool, true, false, _&&_}
 use mathlib.Core.Path.{_≡_}
 use mathlib.Core.List.{List, [], _∷_}
-use Prim.Native.Nat.{ℕ, _≤_, _<_}
+use Prim.Native.Nat.{ℕ}
 use lib.Dec.{leb}
 use lib.IntN.{ℤ, pos}
 use lib.Ieee.{inf}
-use lib.ListN.{length}
 use lib.Signed.{leZ}
 use Rattle.numbers.specs.Answers.{accepted}
-use Rattle.beats.specs.declared.Beat.{Beat}
 use Rattle.meter.specs.Meters.{pointsOf}
-use Rattle.meter.specs.Starts.{startOf}
 use Rattle.meter.specs.Fits.{Fits}
 use Rattle.problems.specs.Problems.{Listed, listed, tempoProblems}
 use Rattle.transport.specs.declared.Transport.{Transport}
 use Rattle.lines.specs.Lines.{linesAnswer}
 use Rattle.filler.specs.Fills.{fillAnswer, fillAfter}
 
--- a numerator of at most `most`; the denominator is at most 2^32 - 1, as that of every beat
-abbrev pub smallBeat : ℕ → Beat → Bool
-smallBeat most beat = leZ (beat .num) (pos most) && leb (beat .den) 4294967295
-
--- 2^53, up to which a float holds each number exactly
+-- numerators of at most 2^53, up to which a float holds each number exactly. (A denominator is a number of 32 bits: nothing more is asked of it.)
 unfoldable pub allSmall : List Listed → Bool
 allSmall [] = true
-allSmall (point ∷ rest) = smallBeat 9007199254740992 (point .at) && allSmall rest
+allSmall (point ∷ rest) = (leZ (point .at .num) (pos 9007199254740992) && leb (point .at .den) 4294967295) && allSmall rest
 
--- a score whose first n lines do not descend
-pub record InOrder (t : Transport) (words : List ℕ) (nums : List ℤ) (dens tempos : List ℕ) (n : ℕ) : Type 0 where
+-- a score whose lines do not descend
+pub record InOrder (t : Transport) (words : List ℕ) (nums : List ℤ) (dens tempos : List ℕ) : Type 0 where
   pub fits : Fits (pointsOf words) (t .«beats_per_bar») (t .pickup)
   pub sound : tempoProblems (listed nums dens tempos) ≡ []
   -- the own tempo, which counts where the map has no points. (The map's own are finite, since it has no problems.)
   pub finite : t .bpm ≡ inf false → ⊥
-  pub points : allSmall (listed nums dens tempos) ≡ true
-  -- the starts are beats of the machine, with numerators of at most 2^63 - 1: nothing more is asked of them
-  pub starts : (bar : ℕ) → bar < n → smallBeat 9223372036854775807 (startOf (pointsOf words) (t .«beats_per_bar») (t .pickup) bar) ≡ true
-  -- a rate is a number of 32 bits
-  pub rate : t .«sample_rate» ≤ 4294967295
+  pub small : allSmall (listed nums dens tempos) ≡ true
 
 -- the lines of such a score, filled by the call, are refused neither by 11 nor by 4
 abbrev pub LinesPromise : Type 0
 LinesPromise =
     (t : Transport) (words : List ℕ) (nums : List ℤ) (dens tempos out : List ℕ)
     → fillAnswer t words nums dens tempos out ≡ accepted tt
-    → InOrder t words nums dens tempos (length out)
+    → InOrder t words nums dens tempos
     → linesAnswer (fillAfter t words nums dens tempos out) ≡ accepted tt
