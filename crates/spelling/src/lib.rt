@@ -1,5 +1,4 @@
-// Numbers, beats and tempos, read from a word of text. Every word has an answer; a word in the
-// midst of a longer text is read by `places`.
+// Numbers, beats and tempos, read from a word of text. Every word has an answer.
 use crate::digits::Digits;
 use beats::Beat;
 ghost use mathlib.Core.Path.{_≡_};
@@ -7,7 +6,6 @@ ghost use Rattle.spelling.specs.Words.{numberOf, beatOf, tempoOf};
 
 mod digits;
 mod fractions;
-pub mod places;
 mod points;
 
 pub enum NumberAnswer {
