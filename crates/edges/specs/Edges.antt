@@ -71,12 +71,12 @@ standsAt position wrapped finished = pos position ∷ ofBool wrapped ∷ ofBool 
 abbrev pub ofAdvance : Handed Moves → Answer (List ℤ)
 ofAdvance handed = read (λ moves. standsAt (handed .transport .position) (moves .0) (moves .1)) (handed .answer)
 
--- the same, and the words of the output
-abbrev pub cued : ℕ → Bool → Bool → List ℕ → List ℤ
-cued position wrapped finished words = standsAt position wrapped finished ++ map pos words
+-- the same, the number of cues, and the words of the output
+abbrev pub cued : ℕ → Bool → Bool → ℕ → List ℕ → List ℤ
+cued position wrapped finished number words = standsAt position wrapped finished ++ map pos (number ∷ words)
 
 abbrev pub ofCues : Handed Said → List ℕ → Answer (List ℤ)
-ofCues handed words = read (λ said. cued (handed .transport .position) (said .wrapped) (said .finished) words) (handed .answer)
+ofCues handed words = read (λ said. cued (handed .transport .position) (said .wrapped) (said .finished) (said .count) words) (handed .answer)
 
 -- the steps of the notes
 abbrev pub ofPhrase : Phrase → List ℤ
@@ -143,7 +143,7 @@ table =
     ∷ edge (count fourFour 4 Absent (pos 8589934592 // 1)) (accepted (ofNumber 2147483648))
     ∷ edge (count fourFour 4 Absent (pos 8589934593 // 1)) (accepted (ofNumber 4294967295))
     ∷ edge (advance (looped 350) 0) (accepted (standsAt 150 true false))
-    ∷ edge (cue (looped 250) (0 ∷ 100 ∷ 200 ∷ 300 ∷ []) 300 (0 ∷ 0 ∷ 0 ∷ 0 ∷ 0 ∷ 0 ∷ [])) (accepted (cued 150 true false (50 ∷ 1 ∷ 150 ∷ 2 ∷ 250 ∷ 1 ∷ [])))
+    ∷ edge (cue (looped 250) (0 ∷ 100 ∷ 200 ∷ 300 ∷ []) 300 (0 ∷ 0 ∷ 0 ∷ 0 ∷ 0 ∷ 0 ∷ [])) (accepted (cued 150 true false 3 (50 ∷ 1 ∷ 150 ∷ 2 ∷ 250 ∷ 1 ∷ [])))
     ∷ edge (euclidean 3 8) (accepted (pos 0 ∷ pos 3 ∷ pos 6 ∷ []))
     ∷ edge (euclidean 0 8) (accepted [])
     ∷ edge (tuplet 3 4) (accepted (pos 0 ∷ pos 1 ∷ pos 3 ∷ []))

@@ -3,6 +3,8 @@
 use beats::Beat;
 use beats::BeatAnswer;
 use beats::OrderAnswer;
+use cues::CueReport;
+use fits::FitsAnswer;
 use meter::BarAnswer;
 use meter::CountAnswer;
 use meter::Pickup;
@@ -10,6 +12,10 @@ use numbers::exact::Order;
 use pattern::Pattern;
 use pattern::PatternAnswer;
 use problems::ProblemsAnswer;
+use transport::Advance;
+use transport::LoopRange;
+use transport::PlayState;
+use transport::Transport;
 
 fn text(s: &[u8]) {
     io::write_all(1, s);
@@ -134,6 +140,84 @@ fn count_edges() {
     count(Pickup::Absent, Beat::from_int(8589934593));
 }
 
+// Playing at a position, with the loop 100..300 and the length 1000.
+fn looped(position: u64) -> Transport {
+    Transport {
+        sample_rate: 48000,
+        bpm: 120.0,
+        beats_per_bar: 4,
+        length: 1000,
+        position,
+        state: PlayState::Playing,
+        looping: LoopRange::On(100, 300),
+        pickup: Pickup::Absent,
+    }
+}
+
+// Where it stands, and what it reports.
+fn print_moved(t: Transport, wrapped: bool, finished: bool) {
+    text(b"at ");
+    io::print_decimal(1, t.position);
+    if wrapped {
+        text(b", wrapped");
+    }
+    if finished {
+        text(b", finished");
+    }
+    text(b"\n");
+}
+
+fn advance_edge() {
+    text(b"loop 100..300, length 1000, at 350, advance(0): ");
+    let after = looped(350).advance(0);
+    let report = after.report;
+    match report {
+        Advance::Moved(wrapped, finished) => print_moved(after.transport, wrapped, finished),
+        Advance::Unsound => text(b"refused 12\n"),
+    }
+}
+
+fn print_cue(time: u64, place: u64) {
+    text(b"(");
+    io::print_decimal(1, time);
+    text(b",");
+    io::print_decimal(1, place);
+    text(b") ");
+}
+
+fn cue_edge() {
+    let lines = [0u64, 100, 200, 300];
+    let mut out = [0u64; 6];
+    text(b"same loop, at 250, lines 0 100 200 300, 300 frames: ");
+    let after = cues::cue(looped(250), &lines, 300, &mut out);
+    let report = after.report;
+    match report {
+        CueReport::Cued(wrapped, finished, count) => {
+            io::print_decimal(1, count as u64);
+            text(b" cues ");
+            print_cue(out[0], out[1]);
+            print_cue(out[2], out[3]);
+            print_cue(out[4], out[5]);
+            print_moved(after.transport, wrapped, finished);
+        }
+        CueReport::Unsound => text(b"refused 12\n"),
+        CueReport::TooLong => text(b"refused 4\n"),
+        CueReport::Descend => text(b"refused 11\n"),
+        CueReport::OutOfReach => text(b"refused 10\n"),
+        CueReport::NoRoom => text(b"refused 8\n"),
+    }
+}
+
+fn print_fits(a: FitsAnswer) {
+    match a {
+        FitsAnswer::Fits => text(b"fits\n"),
+        FitsAnswer::DoesNot => text(b"does not fit\n"),
+        FitsAnswer::Uneven => text(b"refused 3\n"),
+        FitsAnswer::TooLong => text(b"refused 4\n"),
+        FitsAnswer::NotBeat => text(b"refused 1\n"),
+    }
+}
+
 // A pickup so fine that the sum for bar 2 does not fit, while the longer one for bar 17 does.
 fn fine_pickup() {
     let words = [0u32, 5, 64];
@@ -142,6 +226,8 @@ fn fine_pickup() {
     print_start(meter::beat_at_bar(&words, 4, pickup, 2));
     text(b"pickup 1/2^30, 5/64, bar 17: ");
     print_start(meter::beat_at_bar(&words, 4, pickup, 17));
+    text(b"pickup 1/2^30, 5/64: ");
+    print_fits(fits::fits(&words, 4, pickup));
 }
 
 // The problems of a map of one point with this denominator.
@@ -232,6 +318,8 @@ fn gate_edge() {
 fn main() {
     beat_edges();
     count_edges();
+    advance_edge();
+    cue_edge();
     fine_pickup();
     denominator_edges();
     made_edges();
