@@ -1,7 +1,7 @@
-// Document 01's third demand, tried: 100,000 runs of a transport over bar lines, each cued whole
-// and again cut into blocks. The blocks' cues joined, the transport after the last, and whether any
-// wrapped or finished are to be the whole's. It prints what the runs came upon, and the number of
-// runs in which anything differs; a call that is refused is a difference too.
+// Whether a run may be cut into blocks, tried: 100,000 runs of a transport over bar lines, each
+// cued whole and again cut into blocks. The blocks' cues joined, the transport after the last, and
+// whether any wrapped or finished are to be the whole's. It prints what the runs came upon, and the
+// number of runs in which anything differs; a call that is refused is a difference too.
 mod cases;
 mod random;
 mod same;

@@ -1,5 +1,5 @@
-// The words of notes. The first two functions read and write the four words of a note, and no other
-// does.
+// The words of notes. Words become a note, and a note its words, in the first two functions alone;
+// the third moves words without reading them.
 use crate::Note;
 ghost use mathlib.Core.Path.{_≡_};
 ghost use mathlib.Core.List.{_++_};

@@ -1,5 +1,5 @@
 // Each note changed in the same way, and the one copier of notes that every call with input notes
-// goes through.
+// goes through, but `slice`, which leaves notes out.
 use crate::steps;
 use notes::Note;
 ghost use mathlib.Core.Path.{_≡_};

@@ -1,4 +1,5 @@
-// The arithmetic of steps, bars, gains and lengths: exact, and stopped at 2^32 - 1.
+// The arithmetic of steps, bars, gains and lengths. Steps and bars are worked out exactly and stop
+// at 2^32 - 1; only a rotated step keeps its low 32 bits instead.
 ghost use mathlib.Core.Path.{_≡_};
 ghost use Prim.Native.Nat.{min, max, _+_, _*_, _^_, _≤_, _<_};
 ghost use lib.IntN.{pos, _+ℤ_};
