@@ -7,9 +7,8 @@ ghost use mathlib.Core.Path.{_≡_};
 ghost use Prim.Native.Nat.{_+_, _<_};
 ghost use lib.ListN.{length};
 ghost use Rattle.meter.proofs.Laws.{pointAt};
-ghost use Rattle.meter.specs.Meters.{pointsOf};
-ghost use Rattle.problems.specs.Answers.{meterAnswer, meterAfter};
 ghost use Rattle.problems.specs.Readings.{readProblems};
+ghost use Rattle.points.specs.Answers.{flatAnswer, flatAfter};
 
 mod few;
 mod many;
@@ -26,10 +25,13 @@ fn point_at(words: &[u32], i: usize) -> MeterPoint
     }
 }
 
-// The problems of the points of flat words. Words left over behind the last whole point are none.
+// The problems of the points of flat words: 3, 4 and 8 in this order.
 pub fn flat_problems(words: &[u32], out: &mut [u32]) -> ProblemsAnswer
-    ensures { λ r. ⌜ (readProblems r ≡ meterAnswer (pointsOf (now (words .entry))) (now (out .entry))) × (now (out .exit) ≡ meterAfter (pointsOf (now (words .entry))) (now (out .entry))) ⌝ }
+    ensures { λ r. ⌜ (readProblems r ≡ flatAnswer (now (words .entry)) (now (out .entry))) × (now (out .exit) ≡ flatAfter (now (words .entry)) (now (out .entry))) ⌝ }
 {
+    if words.len() % 3 != 0 {
+        return ProblemsAnswer::Uneven;
+    }
     let n = words.len() / 3;
     if n > many::MOST {
         return ProblemsAnswer::TooLong;
