@@ -63,28 +63,29 @@ rounded-f32-agree : Agree rounds-f32 rounded-f32
 unfolding rounds-f32 rounded-f32 ofBits roundAway toUnsigned
 rounded-f32-agree = refl
 
--- ---- an f64, cut, as a u64, a u32 and an i64
+-- ---- an f64, cut, as a u64 and a u32
 
-cuts : ℕ → ℕ × ℕ × ℤ
-unfolding ofBits toUnsigned toSigned
-cuts word = (toUnsigned 64 (ofBits binary64 word), toUnsigned 32 (ofBits binary64 word), toSigned 63 (ofBits binary64 word))
+cuts : ℕ → ℕ × ℕ
+unfolding ofBits toUnsigned
+cuts word = (toUnsigned 64 (ofBits binary64 word), toUnsigned 32 (ofBits binary64 word))
 
-cut : List (ℕ × (ℕ × ℕ × ℤ))
+cut : List (ℕ × (ℕ × ℕ))
 cut =
-    (0x4007_3333_3333_3333, (2, 2, pos 2))  -- 2.9
-    ∷ (0xc007_3333_3333_3333, (0, 0, negsuc 1))  -- -2.9: to -2
-    ∷ (0xbfec_cccc_cccc_cccd, (0, 0, pos 0))  -- -0.9
-    ∷ (0x41ef_ffff_ffe0_0000, (4294967295, 4294967295, pos 4294967295))  -- 2^32 - 1
-    ∷ (0x41f0_0000_0000_0000, (4294967296, 4294967295, pos 4294967296))  -- 2^32
-    ∷ (0x43e0_0000_0000_0000, (9223372036854775808, 4294967295, pos 9223372036854775807))  -- 2^63
-    ∷ (0xc3e0_0000_0000_0001, (0, 0, negsuc 9223372036854775807))  -- the next below -2^63
-    ∷ (0x43f0_0000_0000_0000, (18446744073709551615, 4294967295, pos 9223372036854775807))  -- 2^64
-    ∷ (0xfff0_0000_0000_0000, (0, 0, negsuc 9223372036854775807))  -- -infinity
-    ∷ (0x7ff8_0000_0000_0000, (0, 0, pos 0))  -- NaN
+    (0x3fef_ffff_ffff_ffff, (0, 0))  -- the largest below 1
+    ∷ (0x3ff0_0000_0000_0000, (1, 1))  -- 1
+    ∷ (0x4007_3333_3333_3333, (2, 2))  -- 2.9
+    ∷ (0xc007_3333_3333_3333, (0, 0))  -- -2.9
+    ∷ (0x41ef_ffff_ffe0_0000, (4294967295, 4294967295))  -- 2^32 - 1
+    ∷ (0x41f0_0000_0000_0000, (4294967296, 4294967295))  -- 2^32
+    ∷ (0x432f_ffff_ffff_ffff, (4503599627370495, 4294967295))  -- 2^52 - 0.5
+    ∷ (0x43ef_ffff_ffff_ffff, (18446744073709549568, 4294967295))  -- the largest below 2^64
+    ∷ (0x43f0_0000_0000_0000, (18446744073709551615, 4294967295))  -- 2^64
+    ∷ (0xfff0_0000_0000_0000, (0, 0))  -- -infinity
+    ∷ (0x7ff8_0000_0000_0000, (0, 0))  -- NaN
     ∷ []
 
 cut-agree : Agree cuts cut
-unfolding cuts cut ofBits toUnsigned toSigned
+unfolding cuts cut ofBits toUnsigned
 cut-agree = refl
 
 -- ---- the floor of an f64
@@ -112,20 +113,22 @@ floored-agree : Agree floors floored
 unfolding floors floored ofBits floorOf round toBits
 floored-agree = refl
 
--- ---- a maximum of two f32, and an f32 under the bounds 0 and 1
+-- ---- a maximum of two f64, and an f32 under the bounds 0 and 1
 
 maxima : ℕ × ℕ → ℕ
 unfolding ofBits maximum isNan lt toBits
-maxima words = toBits binary32 (maximum (ofBits binary32 (words .0)) (ofBits binary32 (words .1)))
+maxima words = toBits binary64 (maximum (ofBits binary64 (words .0)) (ofBits binary64 (words .1)))
 
 largest : List ((ℕ × ℕ) × ℕ)
 largest =
-    ((0x3f80_0000, 0x4000_0000), 0x4000_0000)  -- 1, 2: 2
-    ∷ ((0x4000_0000, 0x3f80_0000), 0x4000_0000)  -- 2, 1: 2
-    ∷ ((0x7fc0_0000, 0x3f80_0000), 0x3f80_0000)  -- NaN, 1: 1
-    ∷ ((0x3f80_0000, 0x7fc0_0000), 0x3f80_0000)  -- 1, NaN: 1
-    ∷ ((0x7fc0_0000, 0xff80_0001), 0x7fc0_0000)  -- NaN, NaN: NaN
-    ∷ ((0xff80_0000, 0x3f80_0000), 0x3f80_0000)  -- -infinity, 1: 1
+    ((0x3ff0_0000_0000_0000, 0x4000_0000_0000_0000), 0x4000_0000_0000_0000)  -- 1, 2: 2
+    ∷ ((0x4000_0000_0000_0000, 0x3ff0_0000_0000_0000), 0x4000_0000_0000_0000)  -- 2, 1: 2
+    ∷ ((0x0000_0000_0000_0000, 0x8000_0000_0000_0000), 0x0000_0000_0000_0000)  -- 0, -0: 0
+    ∷ ((0x8000_0000_0000_0000, 0x0000_0000_0000_0000), 0x8000_0000_0000_0000)  -- -0, 0: -0
+    ∷ ((0x7ff8_0000_0000_0000, 0x3ff0_0000_0000_0000), 0x3ff0_0000_0000_0000)  -- NaN, 1: 1
+    ∷ ((0x3ff0_0000_0000_0000, 0x7ff8_0000_0000_0000), 0x3ff0_0000_0000_0000)  -- 1, NaN: 1
+    ∷ ((0x7ff8_0000_0000_0000, 0xfff0_0000_0000_0001), 0x7ff8_0000_0000_0000)  -- NaN, NaN: NaN
+    ∷ ((0xfff0_0000_0000_0000, 0x3ff0_0000_0000_0000), 0x3ff0_0000_0000_0000)  -- -infinity, 1: 1
     ∷ []
 
 largest-agree : Agree maxima largest

@@ -3,19 +3,18 @@
 use mathlib.Core.Path.{_≡_, refl, sym, ap, _∙_, subst}
 use mathlib.Core.Bool.{Bool, true, false, _&&_, cond, true≢false}
 use Prim.Native.Nat.{ℕ, zero, suc, _+_, _-_, _*_, _/_, _%_, _^_, _≤_, _<_, zero-le, min}
-use native.Mathlib.Nat.{le-refl, le-trans, le-of-eq, le-of-lt, le-of-suc-le-suc, lt-of-lt-of-le, lt-of-le-of-lt, lt-irrefl, mul-comm, mul-assoc, mul-one, zero-mul, div-one, mul-lt-mul-of-pos-right, div-eq-of-lt-le, div-lt-iff-lt-mul, add-mul, mul-right-comm, lt-of-mul-lt-mul-right, le-of-mul-le-mul-right, div-mul-le-self, mul-div-cancel, add-le-add, le-mul-of-pos-right, suc-mul}
+use native.Mathlib.Nat.{le-refl, le-trans, le-of-eq, le-of-lt, le-of-suc-le-suc, lt-of-lt-of-le, lt-of-le-of-lt, lt-irrefl, mul-comm, mul-assoc, mul-one, zero-mul, div-one, mul-lt-mul-of-pos-right, div-eq-of-lt-le, div-lt-iff-lt-mul, le-div-iff-mul-le, min-le-left, add-mul, lt-of-mul-lt-mul-right, mul-div-cancel, add-le-add, le-mul-of-pos-right, suc-mul}
 use native.Mathlib.Numerals.{lt-add-one}
 use native.Mathlib.Omega.{arith}
-use borrow.Author.Tests.{ltb-true, ltb-false}
 use lib.IntN.{ℤ, pos, negsuc}
-use lib.Dec.{T, ltb, leb, eqb, ltb→lt, leb→le, lit<}
+use lib.Dec.{T, ltb, leb, eqb, ltb→lt, leb→le, lit<, lit≤}
 use lib.Pow.{pow-add, pow-pos}
-use lib.Ieee.{Float, nan, inf, fin, Format, binary64, prec, emax, low, up, down, fits, lt, neg, odd, units, round, ofInt, toUnsigned}
-use lib.Ieee.Fits.{and-l, and-r, down-pos, round-is, round-fits}
+use lib.Ieee.{Float, nan, inf, fin, Format, binary64, prec, emax, low, up, down, fits, ne, neg, odd, units, round, ofInt, ofBits, toBits, toUnsigned}
+use lib.Ieee.Fits.{and-l, and-r, down-pos, neg-fits, ofInt-fits, round-is, round-fits}
+use lib.Ieee.Bits.{ofBits-toBits}
 use lib.Ieee.Exact.{HasValue, round-exact}
 use lib.Ieee.Back.{round-whole, whole-unique}
-use Rattle.rounding.specs.Floats.{floorOf, wholeAbove, float0}
-use Rattle.rounding.proofs.Signs.{not-below}
+use Rattle.rounding.specs.Floats.{isNegative, withoutSign, floorOf, wholeAbove}
 
 -- ---- the whole numbers next to n / d
 
@@ -122,132 +121,69 @@ neg-units f q k = go (ltb (q * 2 ^ k) (2 ^ (low f + suc (emax f))))
 neg-round : (f : Format) (n : ℕ) → neg (round f false n 1) ≡ round f true n 1
 neg-round f n = ap neg (round-is f false n 1) ∙ neg-units f _ _ ∙ sym (round-is f true n 1)
 
--- ---- at an `f64`: 2 ^ 53 and above there is no fraction
+-- ---- what the proof of `floor` cites, of an `f64` by the whole part of its size
 
-abbrev pub end : Float
-end = fin false 1 (pos 53)
+abbrev pub part : Float → ℕ
+part x = toUnsigned 64 (withoutSign x)
 
-abbrev pub minus-end : Float
-minus-end = fin true 1 (pos 53)
+pub floor-nan : (x : Float) → x ≡ nan → x ≡ floorOf binary64 x
+unfolding floorOf
+floor-nan x h = rw h
 
--- ---- what the proof of `floor` cites
+-- from 2 ^ 53 on there is no fraction
+pub floor-large : (x : Float) → T (fits binary64 x) → 2 ^ 53 - 1 < part x → x ≡ floorOf binary64 x
+unfolding toUnsigned withoutSign floorOf
+floor-large nan F h = refl
+floor-large (inf s) F h = refl
+floor-large (fin s m e) F h = kept-large binary64 s m e F (le-div-iff-mul-le (down-pos e) .0 (go (m * up e / down e) h))
+  where
+    go : (k : ℕ) → 2 ^ 53 - 1 < min k (2 ^ 64 - 1) → 2 ^ 53 ≤ k
+    go k h = omega arith
 
--- the size is below 2 ^ 53
-under : (m : ℕ) (e : ℤ) → lt (fin false m e) end ≡ true → m * up e / down e < 2 ^ 53
-unfolding lt
-under m e h = div-lt-iff-lt-mul (down-pos e) .1 (rw mul-one at (ltb-true (m * up e * 1) (1 * 2 ^ 53 * down e) h))
-
-uncapped : (k : ℕ) → k < 2 ^ 53 → min k (2 ^ 64 - 1) ≡ k
+uncapped : (k : ℕ) → min k (2 ^ 64 - 1) ≤ 2 ^ 53 - 1 → min k (2 ^ 64 - 1) ≡ k
 uncapped k h = omega arith
 
-pub up-small : (x : Float) → lt float0 x ≡ true → lt x end ≡ true → ofInt binary64 (pos (toUnsigned 64 x)) ≡ floorOf binary64 x
-unfolding lt toUnsigned ofInt floorOf
-up-small nan a b = absurd (true≢false (sym a))
-up-small (inf true) a b = absurd (true≢false (sym a))
-up-small (inf false) a b = absurd (true≢false (sym b))
-up-small (fin true m e) a b = absurd (true≢false (sym a))
-up-small (fin false m e) a b = ap (λ (k : ℕ). round binary64 false k 1) (uncapped (m * up e / down e) (under m e b))
+-- an infinity is not below that
+endless : 2 ^ 64 - 1 ≤ 2 ^ 53 - 1 → ⊥
+endless h = omega arith
 
-pub up-large : (x : Float) → T (fits binary64 x) → lt float0 x ≡ true → lt x end ≡ false → x ≡ floorOf binary64 x
-unfolding lt floorOf
-up-large nan F a b = refl
-up-large (inf s) F a b = refl
-up-large (fin true m e) F a b = absurd (true≢false (sym a))
-up-large (fin false m e) F a b = kept-large binary64 false m e F (rw mul-one at (ltb-false (m * up e * 1) (1 * 2 ^ 53 * down e) b))
+-- without a minus the floor is the whole part
+pub floor-up : (x : Float) → ne x x ≡ false → part x ≤ 2 ^ 53 - 1 → isNegative x ≡ false → ofInt binary64 (pos (part x)) ≡ floorOf binary64 x
+unfolding ne toUnsigned withoutSign isNegative ofInt floorOf
+floor-up nan n h s = absurd (true≢false n)
+floor-up (inf t) n h s = absurd (endless h)
+floor-up (fin true m e) n h s = absurd (true≢false s)
+floor-up (fin false m e) n h s = ap (λ (k : ℕ). round binary64 false k 1) (uncapped (m * up e / down e) h)
 
-no-sign : (m : ℕ) (e : ℤ) → lt (fin false m e) float0 ≡ true → ⊥
-no-sign m e a = true≢false (sym a ∙ not-below m e)
+-- the whole part with a minus
+abbrev pub turned : Float → Float
+turned x = neg (ofInt binary64 (pos (part x)))
 
-pub room : (x : Float) → lt x float0 ≡ true → lt minus-end x ≡ true → toUnsigned 64 (neg x) + 1 < 2 ^ 64
-unfolding lt neg toUnsigned
-room nan a b = absurd (true≢false (sym a))
-room (inf true) a b = absurd (true≢false (sym b))
-room (inf false) a b = absurd (true≢false (sym a))
-room (fin true m e) a b = go (m * up e / down e) (under m e b)
+-- with a minus the floor is x where that is x, which the bits say, and else the number after it
+at : (x : Float) → T (fits binary64 x) → part x ≤ 2 ^ 53 - 1 → isNegative x ≡ true → x ≡ turned x → x ≡ floorOf binary64 x
+unfolding toUnsigned withoutSign isNegative ofInt floorOf
+at nan F h s is = refl
+at (inf t) F h s is = refl
+at (fin false m e) F h s is = absurd (true≢false (sym s))
+at (fin true m e) F h s is =
+    let n = min (m * up e / down e) (2 ^ 64 - 1) in
+    kept binary64 true m e n F (rw mul-one at (subst (λ (y : Float). HasValue y true n 1) (sym (is ∙ neg-round binary64 n)) (round-whole binary64 true n (le-trans h (lit≤ tt))) .1))
+
+pub floor-at : (x : Float) → T (fits binary64 x) → part x ≤ 2 ^ 53 - 1 → isNegative x ≡ true → toBits binary64 x ≡ toBits binary64 (turned x) → x ≡ floorOf binary64 x
+floor-at x F h s w = at x F h s (sym (ofBits-toBits binary64 x F) ∙ ap (λ (k : ℕ). ofBits binary64 k) w ∙ ofBits-toBits binary64 (turned x) (neg-fits binary64 (ofInt binary64 (pos (part x))) (ofInt-fits binary64 (pos (part x)))))
+
+pub floor-after : (x : Float) → T (fits binary64 x) → ne x x ≡ false → part x ≤ 2 ^ 53 - 1 → isNegative x ≡ true → (toBits binary64 x ≡ toBits binary64 (turned x) → ⊥) → neg (ofInt binary64 (pos (part x + 1))) ≡ floorOf binary64 x
+unfolding ne toUnsigned withoutSign isNegative ofInt floorOf
+floor-after nan F n h s w = absurd (true≢false n)
+floor-after (inf t) F n h s w = absurd (endless h)
+floor-after (fin false m e) F n h s w = absurd (true≢false (sym s))
+floor-after (fin true m e) F n h s w =
+    let k = min (m * up e / down e) (2 ^ 64 - 1) in
+    let below : k * down e ≤ m * up e = le-div-iff-mul-le (down-pos e) .0 (min-le-left (m * up e / down e) (2 ^ 64 - 1)) in
+    neg-round binary64 (k + 1)
+    ∙ ap (λ (j : ℕ). round binary64 true j 1)
+    (sym (above-is (m * up e) (down e) (k + 1) (down-pos e) (le-of-lt (div-lt-iff-lt-mul (down-pos e) .0 (lt-of-le-of-lt (le-of-eq (sym (uncapped (m * up e / down e) h))) (lt-add-one k))))
+    (lt-of-le-of-lt (le-of-eq (add-mul k 1 (down e))) (go (k * down e) (m * up e) (down e) below (λ is. w (ap (λ (y : Float). toBits binary64 y) (is-whole binary64 true m e k F (sym is) ∙ sym (neg-round binary64 k))))))))
   where
-    go : (k : ℕ) → k < 2 ^ 53 → min k (2 ^ 64 - 1) + 1 < 2 ^ 64
-    go k h = omega arith
-room (fin false m e) a b = lit< tt
-
--- a whole number against m * 2 ^ e
-less-whole : (t : Float) (k m : ℕ) (e : ℤ) → HasValue t false k 1 → lt t (fin false m e) ≡ true → k * down e < m * up e
-unfolding lt
-less-whole nan k m e v h = absurd v
-less-whole (inf s) k m e v h = absurd v
-less-whole (fin true n d) k m e v h = absurd (true≢false (v .0))
-less-whole (fin false n d) k m e v h = lt-of-mul-lt-mul-right (down d) (subst (λ (z : ℕ). z < m * up e * down d) (ap (λ (z : ℕ). z * down e) (sym (mul-one (n * up d)) ∙ v .1) ∙ mul-right-comm k (down d) (down e)) (ltb-true (n * up d * down e) (m * up e * down d) h))
-
-not-less-whole : (t : Float) (k m : ℕ) (e : ℤ) → HasValue t false k 1 → lt t (fin false m e) ≡ false → m * up e ≤ k * down e
-unfolding lt
-not-less-whole nan k m e v h = absurd v
-not-less-whole (inf s) k m e v h = absurd v
-not-less-whole (fin true n d) k m e v h = absurd (true≢false (v .0))
-not-less-whole (fin false n d) k m e v h = le-of-mul-le-mul-right (subst (λ (z : ℕ). m * up e * down d ≤ z) (ap (λ (z : ℕ). z * down e) (sym (mul-one (n * up d)) ∙ v .1) ∙ mul-right-comm k (down d) (down e)) (ltb-false (n * up d * down e) (m * up e * down d) h)) (down-pos d)
-
-module _ (m : ℕ) (e : ℤ) (b : lt (fin false m e) end ≡ true) where
-  abbrev k : ℕ
-  k = m * up e / down e
-
-  of-k : HasValue (round binary64 false k 1) false k 1
-  of-k = round-whole binary64 false k (le-of-lt (under m e b))
-
-  abbrev cut : ℕ
-  cut = min k (2 ^ 64 - 1)
-
-  cut-is : cut ≡ k
-  cut-is = uncapped k (under m e b)
-
-  after : lt (round binary64 false cut 1) (fin false m e) ≡ true → neg (round binary64 false (cut + 1) 1) ≡ round binary64 true (wholeAbove (m * up e) (down e)) 1
-  after h =
-      neg-round binary64 (cut + 1)
-      ∙ ap (λ (j : ℕ). round binary64 true j 1)
-      (ap (λ (j : ℕ). j + 1) cut-is
-      ∙ sym (above-is (m * up e) (down e) (k + 1) (down-pos e) (le-of-lt (div-lt-iff-lt-mul (down-pos e) .0 (lt-add-one k)))
-      (lt-of-le-of-lt (le-of-eq (add-mul k 1 (down e))) (go (k * down e) (m * up e) (down e) (less-whole (round binary64 false k 1) k m e of-k (subst (λ (j : ℕ). lt (round binary64 false j 1) (fin false m e) ≡ true) cut-is h))))))
-    where
-      go : (a n d : ℕ) → a < n → a + 1 * d < n + d
-      go a n d l = omega arith
-
-  at : lt (round binary64 false cut 1) (fin false m e) ≡ false → neg (round binary64 false cut 1) ≡ round binary64 true (wholeAbove (m * up e) (down e)) 1
-  at h =
-      neg-round binary64 cut
-      ∙ ap (λ (j : ℕ). round binary64 true j 1)
-      (cut-is
-      ∙ sym (above-is (m * up e) (down e) k (down-pos e) (not-less-whole (round binary64 false k 1) k m e of-k (subst (λ (j : ℕ). lt (round binary64 false j 1) (fin false m e) ≡ false) cut-is h))
-      (below-more (k * down e) (m * up e) (down e) (down-pos e) (div-mul-le-self (m * up e) (down e)))))
-
-pub down-after : (x : Float) → lt x float0 ≡ true → lt minus-end x ≡ true → lt (ofInt binary64 (pos (toUnsigned 64 (neg x)))) (neg x) ≡ true → neg (ofInt binary64 (pos (toUnsigned 64 (neg x) + 1))) ≡ floorOf binary64 x
-unfolding lt neg toUnsigned ofInt floorOf
-down-after nan a b h = absurd (true≢false (sym a))
-down-after (inf true) a b h = absurd (true≢false (sym b))
-down-after (inf false) a b h = absurd (true≢false (sym a))
-down-after (fin true m e) a b h = after m e b h
-down-after (fin false m e) a b h = absurd (no-sign m e a)
-
-pub down-at : (x : Float) → lt x float0 ≡ true → lt minus-end x ≡ true → lt (ofInt binary64 (pos (toUnsigned 64 (neg x)))) (neg x) ≡ false → neg (ofInt binary64 (pos (toUnsigned 64 (neg x)))) ≡ floorOf binary64 x
-unfolding lt neg toUnsigned ofInt floorOf
-down-at nan a b h = absurd (true≢false (sym a))
-down-at (inf true) a b h = absurd (true≢false (sym b))
-down-at (inf false) a b h = absurd (true≢false (sym a))
-down-at (fin true m e) a b h = at m e b h
-down-at (fin false m e) a b h = absurd (no-sign m e a)
-
-pub down-large : (x : Float) → T (fits binary64 x) → lt x float0 ≡ true → lt minus-end x ≡ false → x ≡ floorOf binary64 x
-unfolding lt floorOf
-down-large nan F a b = refl
-down-large (inf s) F a b = refl
-down-large (fin false m e) F a b = absurd (no-sign m e a)
-down-large (fin true m e) F a b = kept-large binary64 true m e F (rw mul-one at (ltb-false (m * up e * 1) (1 * 2 ^ 53 * down e) b))
-
-pub at-zero : (x : Float) → T (fits binary64 x) → lt float0 x ≡ false → lt x float0 ≡ false → x ≡ floorOf binary64 x
-unfolding lt floorOf
-at-zero nan F a b = refl
-at-zero (inf s) F a b = refl
-at-zero (fin false m e) F a b = kept binary64 false m e 0 F (go (m * up e) (down e) (ltb-false (0 * down e) (m * up e * 1) a))
-  where
-    go : (n d : ℕ) → n * 1 ≤ 0 * d → n ≡ 0 * d
-    go n d p = omega arith
-at-zero (fin true m e) F a b = kept binary64 true m e 0 F (go (m * up e) (down e) (ltb-false 0 (m * up e * 1 + 0 * down e) b))
-  where
-    go : (n d : ℕ) → n * 1 + 0 * d ≤ 0 → n ≡ 0 * d
-    go n d p = omega arith
+    go : (a n d : ℕ) → a ≤ n → (a ≡ n → ⊥) → a + 1 * d < n + d
+    go a n d l q = omega arith

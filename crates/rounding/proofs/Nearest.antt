@@ -3,7 +3,7 @@
 use mathlib.Core.Path.{_≡_, sym, ap, _∙_}
 use mathlib.Core.Bool.{Bool, true, false}
 use Prim.Native.Nat.{ℕ, _+_, _-_, _*_, _/_, _^_, _≤_, _<_, min, zero-le}
-use native.Mathlib.Nat.{le-refl, le-trans, le-of-eq, lt-of-lt-of-le, mul-assoc, mul-comm, mul-one, div-one, div-mul-le-self, div-lt-iff-lt-mul, div-eq-of-lt-le, min-le-left, min-le-right}
+use native.Mathlib.Nat.{le-refl, le-trans, le-of-eq, lt-of-lt-of-le, mul-assoc, mul-comm, mul-one, div-one, div-mul-le-self, div-lt-iff-lt-mul, div-eq-of-lt, div-eq-of-lt-le, min-le-left, min-le-right}
 use native.Mathlib.Numerals.{lt-add-one}
 use native.Mathlib.Omega.{arith}
 use lib.Dec.{T, eqb, eqb→eq}
@@ -13,7 +13,7 @@ use lib.Ieee.Fits.{down-pos, and-r}
 use lib.Ieee.Nearest.{div-mono}
 use Rattle.numbers.proofs.Laws.{factor-zero}
 use Rattle.rounding.specs.Floats.{halfUp, roundAway}
-use Rattle.rounding.proofs.Signs.{stopped, no-half}
+use Rattle.rounding.proofs.Signs.{stopped}
 use Rattle.rounding.proofs.Order.{same}
 
 -- 2 * k ≤ 2 * (n / d) + 1 < 2 * (k + 1), in whole numbers
@@ -50,6 +50,12 @@ round-signed b s m e k h = ap (λ (j : ℕ). stopped b s j) (cast-of (halfUp (m 
 
 half-rises : (n d n' d' : ℕ) → 0 < d → 0 < d' → n * d' ≤ n' * d → halfUp n d ≤ halfUp n' d'
 half-rises n d n' d' D D' h = div-mono (2 * n + d) (2 * d) (2 * n' + d') (2 * d') (omega arith) (omega arith) (omega arith)
+
+no-half : (n d : ℕ) → n ≡ 0 → 0 < d → halfUp n d * 1 / 1 ≡ 0
+no-half n d z D = ap (λ (k : ℕ). k * 1 / 1) (div-eq-of-lt (go n d z D))
+  where
+    go : (u v : ℕ) → u ≡ 0 → 0 < v → 2 * u + v < 2 * v
+    go u v p q = omega arith
 
 pub round-rises : (w : ℕ) (x y : Float) → T (le x y) → toUnsigned w (roundAway x) ≤ toUnsigned w (roundAway y)
 unfolding toUnsigned roundAway le lt eq

@@ -3,7 +3,7 @@
 -- here serves `f32` and `f64`. `toUnsigned w` and `toSigned h` of `lib.Ieee` are a cast, Rust's `as`: towards zero, stopped at the ends of w bits,
 -- or of h bits and a sign, and 0 for a NaN.
 use Prim.Native.Nat.{ℕ, _+_, _-_, _*_, _/_}
-use mathlib.Core.Bool.{true, false, cond, _||_}
+use mathlib.Core.Bool.{Bool, true, false, cond, _||_}
 use lib.IntN.{pos}
 use lib.Ieee.{Float, nan, inf, fin, Format, up, down, lt, isNan, round}
 
@@ -24,6 +24,12 @@ unfoldable pub withoutSign : Float → Float
 withoutSign nan = nan
 withoutSign (inf s) = inf false
 withoutSign (fin s m e) = fin false m e
+
+-- whether x has a minus sign, as -0 has: `x.is_sign_negative()`, but that a NaN has none
+unfoldable pub isNegative : Float → Bool
+isNegative nan = false
+isNegative (inf s) = s
+isNegative (fin s m e) = s
 
 -- `x.round()`: the nearest whole number, halves away from zero. It is there for a cast to look at, and is no float of a program: its digits
 -- are not reduced to the one way in which a format writes the number.

@@ -1,17 +1,26 @@
-// Floats worked out from their bits: rounding half away from zero, flooring, the casts that stop at
-// a width's ends, maximum, clamp, widening, and floats as words. Every function answers every
-// input, NaNs and infinities included, and its contract is one equation.
+// Floats worked out from their bits: the sign, rounding half away from zero, the casts that stop at
+// a width's ends, flooring, and floats as words; with them maximum, clamp and widening. Every
+// function answers every input, NaNs and infinities included, and its contract is one equation.
 ghost use mathlib.Core.Path.{_≡_};
+ghost use mathlib.Core.Bool.{cond};
 ghost use lib.Ieee as Ieee;
 ghost use lib.Ieee.{binary32, binary64};
-ghost use Rattle.rounding.specs.Floats.{roundAway, withoutSign, floorOf, maximum, clamp};
+ghost use Rattle.rounding.specs.Floats.{isNegative, withoutSign, roundAway, floorOf, maximum, clamp};
 
-// Rounding: the nearest whole number, halves away from zero.
+// The sign and the size, from the bits.
 
-// The size of x, rounded: 2^64 - 1 where it is too large, and 0 for a NaN. Every rounding reads the
-// bits here, since adding 0.5 as a float and cutting would take 0.49999999999999994 to 1.
-pub fn round_size(x: f64) -> u64
-    ensures { λ r. ⌜ r ≡ Ieee.toUnsigned 64 (roundAway (withoutSign x)) ⌝ }
+// Whether x has a minus sign, as -0 has. A NaN has none.
+pub fn negative(x: f64) -> bool
+    ensures { λ r. ⌜ r ≡ isNegative x ⌝ }
+{
+    f64_word(x) > 0x7fff_ffff_ffff_ffff
+}
+
+// The size of x as a whole number, the nearest with halves going up, or cut: 2^64 - 1 where it is
+// too large, and 0 for a NaN. Every rounding and every cut reads the bits here, since adding 0.5 as
+// a float and cutting would take 0.49999999999999994 to 1.
+pub fn whole_size(x: f64, nearest: bool) -> u64
+    ensures { λ r. ⌜ r ≡ Ieee.toUnsigned 64 (withoutSign (cond nearest (roundAway x) x)) ⌝ }
 {
     if x != x {
         return 0;
@@ -27,25 +36,28 @@ pub fn round_size(x: f64) -> u64
         return 0xffff_ffff_ffff_ffff;
     }
     if exponent <= 1075 {
-        // twice the size, cut, then one more half, and halved
-        (((digits << 1) >> (1075 - exponent)) + 1) >> 1
+        // for the nearest: twice the size, cut, then one more half, and halved
+        let half: u64 = nearest as u64;
+        (((digits << half) >> (1075 - exponent)) + half) >> half
     } else {
         digits << (exponent - 1075)
     }
 }
 
+// Rounding: the nearest whole number, halves away from zero.
+
 // `x.round().max(0.0) as u64`: below 0 and for a NaN 0, too large 2^64 - 1.
 pub fn round_to_u64(x: f64) -> u64
     ensures { λ r. ⌜ r ≡ Ieee.toUnsigned 64 (roundAway x) ⌝ }
 {
-    if x < 0.0 { 0 } else { round_size(x) }
+    if negative(x) { 0 } else { whole_size(x, true) }
 }
 
 // `x.round() as i64`.
 pub fn round_to_i64(x: f64) -> i64
     ensures { λ r. ⌜ r ≡ Ieee.toSigned 63 (roundAway x) ⌝ }
 {
-    numbers::signed(x < 0.0, round_size(x))
+    numbers::signed(negative(x), whole_size(x, true))
 }
 
 // `x.round() as u32`.
@@ -61,15 +73,7 @@ pub fn round_to_u32(x: f32) -> u32
 pub fn cut_to_u64(x: f64) -> u64
     ensures { λ r. ⌜ r ≡ Ieee.toUnsigned 64 x ⌝ }
 {
-    if x < 18446744073709551616.0 {
-        if x > -1.0 {
-            std::num::truncating_f64_to_u64(x)
-        } else {
-            0
-        }
-    } else {
-        if x != x { 0 } else { 0xffff_ffff_ffff_ffff }
-    }
+    if negative(x) { 0 } else { whole_size(x, false) }
 }
 
 // `x as u32`.
@@ -79,55 +83,31 @@ pub fn cut_to_u32(x: f64) -> u32
     numbers::to_u32(cut_to_u64(x))
 }
 
-// `x as i64`.
-pub fn cut_to_i64(x: f64) -> i64
-    ensures { λ r. ⌜ r ≡ Ieee.toSigned 63 x ⌝ }
-{
-    if x < 0.0 {
-        numbers::signed(true, cut_to_u64(-x))
-    } else {
-        numbers::signed(false, cut_to_u64(x))
-    }
-}
-
-// `x.floor()`. A float of 2^53 and more has no fraction.
+// `x.floor()`. A float of 2^53 and more has no fraction. With a minus a fraction is left where the
+// bits are not those of the whole part.
 pub fn floor(x: f64) -> f64
     ensures { λ r. ⌜ r ≡ floorOf binary64 x ⌝ }
 {
-    if x > 0.0 {
-        if x < 9007199254740992.0 {
-            std::num::nearest_u64_to_f64(cut_to_u64(x))
-        } else {
+    if x != x {
+        return x;
+    }
+    let n: u64 = whole_size(x, false);
+    if n > 0x1f_ffff_ffff_ffff {
+        return x;
+    }
+    let whole: f64 = std::num::nearest_u64_to_f64(n);
+    if negative(x) {
+        if f64_word(x) == f64_word(-whole) {
             x
-        }
-    } else if x < 0.0 {
-        if x > -9007199254740992.0 {
-            let n: u64 = cut_to_u64(-x);
-            let whole: f64 = std::num::nearest_u64_to_f64(n);
-            if whole < -x {
-                -std::num::nearest_u64_to_f64(n + 1)
-            } else {
-                -whole
-            }
         } else {
-            x
+            -std::num::nearest_u64_to_f64(n + 1)
         }
     } else {
-        x
+        whole
     }
 }
 
 // Picks: a NaN goes as document 01 says, whichever side it stands on.
-
-// `x.max(y)`: a NaN gives the other side.
-pub fn max_f32(x: f32, y: f32) -> f32
-    ensures { λ r. ⌜ r ≡ maximum x y ⌝ }
-{
-    if x < y {
-        return y;
-    }
-    if x != x { y } else { x }
-}
 
 // `x.max(y)`: a NaN gives the other side.
 pub fn max_f64(x: f64, y: f64) -> f64
@@ -156,9 +136,9 @@ pub fn clamp_f32(x: f32, low: f32, high: f32) -> f32
 pub fn clamp_f64(x: f64, low: f64, high: f64) -> f64
     ensures { λ r. ⌜ r ≡ clamp x low high ⌝ }
 {
-    if x < low {
+    if low > x {
         low
-    } else if x > high {
+    } else if high < x {
         high
     } else {
         x

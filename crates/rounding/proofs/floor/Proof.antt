@@ -1,89 +1,96 @@
--- `rounding::floor` meets its contract: each way out is one law of `Flooring`, of the tests made on the way there.
+-- `rounding::floor` meets its contract: each way out is one law of `Flooring`, of the whole part of the size and of the tests made on the way there.
 use mathlib.Core.Path.{_≡_, sym, ap, _∙_, subst}
-use mathlib.Core.Bool.{true, false}
-use Prim.Native.Nat.{ℕ, _+_, _^_, _<_}
+use mathlib.Core.Bool.{true}
+use Prim.Native.Nat.{ℕ, _+_, _-_, _^_, _≤_}
 use lib.Dec.{T}
 use lib.IntN.{pos}
-use lib.Ieee.{Float, binary64, fits, lt, neg, ofBits, ofInt, toUnsigned}
-use Rattle.rounding.proofs.Flooring.{up-small, up-large, room, down-after, down-at, down-large, at-zero}
+use lib.Ieee.{Float, binary64, fits, neg, toBits, ofInt}
 use borrow.Author.Needs.{needs}
+use Rattle.rounding.specs.Floats.{isNegative}
+use Rattle.rounding.proofs.Nan.{is-nan}
+use Rattle.rounding.proofs.Flooring.{part, turned, floor-nan, floor-large, floor-up, floor-at, floor-after}
 use Rattle.rounding.proofs.floor.Statement.{statement}
 use Rattle.rounding.proofs.floor.Tie as tie
 
 held : (c : tie.Start) → T (fits binary64 (c .args .x))
 held c = subst T (sym (c .good .0 .1)) tt
 
--- the float of the whole part of -x
-near : (c : tie.After-nearest-u64-to-f642) → c .nearest-u64-to-f642 .result ≡ ofInt binary64 (pos (toUnsigned 64 (neg (c .before .before .before .before .before .args .x))))
-near c = c .nearest-u64-to-f642 .ensures ∙ ap (λ (n : ℕ). ofInt binary64 (pos n)) (c .before .cut-to-u642 .ensures)
+-- below 2 ^ 53: the whole part as a float
+under : (c : tie.Else2) → part (c .before .before .before .args .x) ≤ 2 ^ 53 - 1
+under c = rw (c .before .whole-size .ensures) at (c .if2 .left)
 
-cut-to-u64-requires : tie.Need-cut-to-u64-requires
-cut-to-u64-requires c κs = search needs
+whole : (c : tie.After-nearest-u64-to-f64) → c .nearest-u64-to-f64 .result ≡ ofInt binary64 (pos (part (c .before .before .before .before .args .x)))
+whole c = c .nearest-u64-to-f64 .ensures ∙ ap (λ (n : ℕ). ofInt binary64 (pos n)) (c .before .before .whole-size .ensures)
+
+minus : (c : tie.Then3) → isNegative (c .before .before .before .before .before .before .args .x) ≡ true
+minus c = sym (c .before .negative .ensures) ∙ c .if3 .taken
+
+turned-word : (c : tie.After-f64-word2) → c .f64-word2 .result ≡ toBits binary64 (turned (c .before .before .before .before .before .before .before .before .args .x))
+turned-word c = c .f64-word2 .ensures ∙ ap (λ (y : Float). toBits binary64 (neg y)) (whole (c .before .before .before .before))
+
+returns : tie.Need-returns
+returns c = floor-nan (c .before .args .x) (is-nan (c .before .args .x) (c .if1 .taken))
+
+whole-size-requires : tie.Need-whole-size-requires
+whole-size-requires c κs = search needs
+
+returns-2 : tie.Need-returns-2
+returns-2 c =
+    let size = c .before in
+    floor-large (size .before .before .args .x) (held (size .before .before)) (rw (size .whole-size .ensures) at (c .if2 .taken))
 
 nearest-u64-to-f64-requires : tie.Need-nearest-u64-to-f64-requires
 nearest-u64-to-f64-requires c κs = search needs
 
-cut-to-u64-requires-2 : tie.Need-cut-to-u64-requires-2
-cut-to-u64-requires-2 c κs = search needs
+negative-requires : tie.Need-negative-requires
+negative-requires c κs = search needs
+
+f64-word-requires : tie.Need-f64-word-requires
+f64-word-requires c κs = search needs
+
+f64-word-requires-2 : tie.Need-f64-word-requires-2
+f64-word-requires-2 c κs = search needs
+
+add-nearest-u64-to-f64 : tie.Need-add-nearest-u64-to-f64
+add-nearest-u64-to-f64 c = search needs
 
 nearest-u64-to-f64-requires-2 : tie.Need-nearest-u64-to-f64-requires-2
 nearest-u64-to-f64-requires-2 c κs = search needs
 
-add-nearest-u64-to-f64 : tie.Need-add-nearest-u64-to-f64
-unfolding ofBits neg
-add-nearest-u64-to-f64 c =
-    let d = c .before .before .before in
-    record { fits = subst (λ (n : ℕ). n + 1 < 2 ^ 64) (sym (c .before .before .cut-to-u642 .ensures)) (room (d .before .before .before .args .x) (d .before .if3 .taken) (d .if4 .taken)) }
-
-nearest-u64-to-f64-requires-3 : tie.Need-nearest-u64-to-f64-requires-3
-nearest-u64-to-f64-requires-3 c κs = search needs
-
-returns : tie.Need-returns
-unfolding ofBits
-returns c =
-    let d = c .before .before in
-    c .nearest-u64-to-f64 .ensures ∙ ap (λ (n : ℕ). ofInt binary64 (pos n)) (c .before .cut-to-u64 .ensures) ∙ up-small (d .before .before .args .x) (d .before .if1 .taken) (d .if2 .taken)
-
-returns-2 : tie.Need-returns-2
-unfolding ofBits
-returns-2 c = up-large (c .before .before .args .x) (held (c .before .before)) (c .before .if1 .taken) (c .if2 .left)
-
 returns-3 : tie.Need-returns-3
-unfolding ofBits neg
 returns-3 c =
-    let n = c .before .before in
-    let d = n .before .before in
-    ap neg (c .nearest-u64-to-f643 .ensures ∙ ap (λ (k : ℕ). ofInt binary64 (pos (k + 1))) (n .before .cut-to-u642 .ensures))
-    ∙ down-after (d .before .before .before .args .x) (d .before .if3 .taken) (d .if4 .taken) (subst (λ (t : Float). lt t (neg (d .before .before .before .args .x)) ≡ true) (near n) (c .before .if5 .taken))
+    let word = c .before .before in
+    let size = word .before .before .before .before in
+    let start = size .before .before .before in
+    floor-at (start .args .x) (held start) (under size) (minus (word .before)) (sym (word .f64-word .ensures) ∙ c .if4 .taken ∙ turned-word (c .before))
 
 returns-4 : tie.Need-returns-4
-unfolding ofBits neg
 returns-4 c =
-    let n = c .before in
-    let d = n .before .before in
-    ap neg (near n) ∙ down-at (d .before .before .before .args .x) (d .before .if3 .taken) (d .if4 .taken) (subst (λ (t : Float). lt t (neg (d .before .before .before .args .x)) ≡ false) (near n) (c .if5 .left))
+    let word = c .before .before .before in
+    let size = word .before .before .before .before in
+    let start = size .before .before .before in
+    ap neg (c .nearest-u64-to-f642 .ensures ∙ ap (λ (n : ℕ). ofInt binary64 (pos (n + 1))) (size .before .whole-size .ensures))
+    ∙ floor-after (start .args .x) (held start) (size .before .before .if1 .left) (under size) (minus (word .before)) (λ h. c .before .if4 .left (word .f64-word .ensures ∙ h ∙ sym (turned-word (c .before .before))))
 
 returns-5 : tie.Need-returns-5
-unfolding ofBits neg
-returns-5 c = down-large (c .before .before .before .args .x) (held (c .before .before .before)) (c .before .if3 .taken) (c .if4 .left)
-
-returns-6 : tie.Need-returns-6
-unfolding ofBits
-returns-6 c = at-zero (c .before .before .args .x) (held (c .before .before)) (c .before .if1 .left) (c .if3 .left)
+returns-5 c =
+    let near = c .before .before in
+    let size = near .before in
+    whole near ∙ floor-up (size .before .before .before .args .x) (size .before .before .if1 .left) (under size) (sym (c .before .negative .ensures) ∙ c .if3 .left)
 
 pub floor-spec : {M : Type 1} → statement M
 floor-spec =
     tie.close
     (tie.spec
-    cut-to-u64-requires
-    nearest-u64-to-f64-requires
-    cut-to-u64-requires-2
-    nearest-u64-to-f64-requires-2
-    add-nearest-u64-to-f64
-    nearest-u64-to-f64-requires-3
     returns
+    whole-size-requires
     returns-2
+    nearest-u64-to-f64-requires
+    negative-requires
+    f64-word-requires
+    f64-word-requires-2
+    add-nearest-u64-to-f64
+    nearest-u64-to-f64-requires-2
     returns-3
     returns-4
-    returns-5
-    returns-6)
+    returns-5)

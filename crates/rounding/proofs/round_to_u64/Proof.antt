@@ -1,21 +1,26 @@
--- `rounding::round_to_u64` meets its contract: below 0 the cast is 0, and else it is that of the size.
-use mathlib.Core.Path.{_∙_}
-use lib.Ieee.{ofBits}
+-- `rounding::round_to_u64` meets its contract: with a minus the cast is 0, and else it is that of the size.
+use mathlib.Core.Path.{sym, _∙_}
 use borrow.Author.Needs.{needs}
-use Rattle.rounding.proofs.Signs.{round-below, round-above}
+use Rattle.rounding.specs.Floats.{roundAway}
+use Rattle.rounding.proofs.Signs.{minus-none, plain-own, round-sign}
 use Rattle.rounding.proofs.round_to_u64.Statement.{statement}
 use Rattle.rounding.proofs.round_to_u64.Tie as tie
 
-round-size-requires : tie.Need-round-size-requires
-round-size-requires c κs = search needs
+negative-requires : tie.Need-negative-requires
+negative-requires c κs = search needs
+
+whole-size-requires : tie.Need-whole-size-requires
+whole-size-requires c κs = search needs
 
 returns : tie.Need-returns
-unfolding ofBits
-returns c = round-below 64 (c .before .args .x) (c .if1 .taken)
+returns c =
+    let x = c .before .before .args .x in
+    minus-none 64 (roundAway x) (round-sign x ∙ sym (c .before .negative .ensures) ∙ c .if1 .taken)
 
 returns-2 : tie.Need-returns-2
-unfolding ofBits
-returns-2 c = c .round-size .ensures ∙ round-above 64 (c .before .before .args .x) (c .before .if1 .left)
+returns-2 c =
+    let x = c .before .before .before .args .x in
+    c .whole-size .ensures ∙ plain-own 64 (roundAway x) (round-sign x ∙ sym (c .before .before .negative .ensures) ∙ c .before .if1 .left)
 
 pub round-to-u64-spec : {M : Type 1} → statement M
-round-to-u64-spec = tie.close (tie.spec round-size-requires returns returns-2)
+round-to-u64-spec = tie.close (tie.spec negative-requires whole-size-requires returns returns-2)
