@@ -1,4 +1,4 @@
--- The loop over the lines: the entries before k are lines, those from k on are still marks, and both carried states hold.
+-- The loop over the lines: the entries before k are lines, those from k on are still marks, and what is carried holds: the segment, and the two walks.
 use mathlib.Core.Path.{_≡_, refl, sym, ap, _∙_}
 use mathlib.Core.List.{List}
 use Prim.Native.Nat.{ℕ, zero, suc, _+_, _≤_, _<_}
@@ -18,7 +18,7 @@ use Rattle.filler.specs.declared.segments.Segment.{Segment}
 use Rattle.filler.specs.declared.stands.Stand.{Stand}
 use Rattle.filler.specs.Fills.{entries, barLines}
 use Rattle.filler.specs.Numbers.{markOf, Marked}
-use Rattle.filler.specs.Carried.{startIn, Before, Has, Serves, Stopped}
+use Rattle.filler.specs.Carried.{startIn, Before, Has, Serves, ServesAll, Stopped}
 
 -- ---- entries by their places
 
@@ -45,26 +45,28 @@ module _ (t : Transport) (words : List ℕ) (nums : List ℤ) (dens tempos : Lis
   abbrev line : ℕ → ℕ
   line = frameAtBar t (pointsOf words) (tempoPoints nums dens tempos)
 
-  pub record Filled (n : ℕ) (out : List ℕ) (seg : Segment) (beat : Float) (stand : Stand) (k : ℕ) : Type 0 where
+  pub record Filled (n : ℕ) (out : List ℕ) (seg : Segment) (ahead behind : Stand) (k : ℕ) : Type 0 where
     pub long : length out ≡ n
     pub below : (j : ℕ) → j < k → getD out j 0 ≡ line j
     pub marks : (j : ℕ) → k ≤ j → j < n → getD out j 0 ≡ markOf (pointsOf words) j
     pub segment : Before (pointsOf words) (t .«beats_per_bar») (t .pickup) k seg
-    pub tempo : Serves nums dens tempos beat stand
+    pub first : Serves nums dens tempos (ahead .beat) ahead
+    pub second : Serves nums dens tempos (behind .beat) behind
 
-  pub filled-none : (n : ℕ) (out : List ℕ) (seg : Segment) (beat : Float) (stand : Stand) → Marked (pointsOf words) n out
-      → Before (pointsOf words) (t .«beats_per_bar») (t .pickup) 0 seg → Serves nums dens tempos beat stand → Filled (length out) out seg beat stand 0
-  filled-none n out seg beat stand m b s =
+  pub filled-none : (n : ℕ) (out : List ℕ) (seg : Segment) (stand : Stand) → Marked (pointsOf words) n out
+      → Before (pointsOf words) (t .«beats_per_bar») (t .pickup) 0 seg → ServesAll nums dens tempos stand → Filled (length out) out seg stand stand 0
+  filled-none n out seg stand m b s =
       record {
         long = refl;
         below = below-none (λ (j : ℕ). getD out j 0 ≡ line j);
         marks = λ j h l. m .marks j (omega (arith, m .long));
         segment = b;
-        tempo = s;
+        first = s (stand .beat);
+        second = s (stand .beat);
       }
 
-module _ {t : Transport} {words : List ℕ} {nums : List ℤ} {dens tempos : List ℕ} {n : ℕ} {out : List ℕ} {seg : Segment} {beat : Float} {stand : Stand} {k : ℕ}
-    (f : Filled t words nums dens tempos n out seg beat stand k) where
+module _ {t : Transport} {words : List ℕ} {nums : List ℤ} {dens tempos : List ℕ} {n : ℕ} {out : List ℕ} {seg : Segment} {ahead behind : Stand} {k : ℕ}
+    (f : Filled t words nums dens tempos n out seg ahead behind k) where
   pub filled-all : length out ≤ k → out ≡ barLines t (pointsOf words) (tempoPoints nums dens tempos) n
   filled-all h = let at = line t words nums dens tempos in are-entries at out (λ j l. f .below j (omega arith)) ∙ ap (entries at 0) (f .long)
 
@@ -73,20 +75,28 @@ module _ {t : Transport} {words : List ℕ} {nums : List ℤ} {dens tempos : Lis
     mark-here = f .marks k (omega arith) (omega (arith, f .long))
 
     -- what the calls of one turn ensure
-    module _ {seg' : Segment} {start : Beat} {next : Float} {stand' : Stand} {v : ℕ}
-        (has : Has (pointsOf words) (t .«beats_per_bar») (t .pickup) k seg') (e : start ≡ startIn seg' k) (g : next ≡ floatOf start)
-        (stopped : Stopped nums dens tempos next stand') (is : v ≡ frameAtBeat t (tempoPoints nums dens tempos) next) where
+    module _ {seg' : Segment} {start : Beat} {beat : Float} {stand : Stand} {v : ℕ}
+        (has : Has (pointsOf words) (t .«beats_per_bar») (t .pickup) k seg') (e : start ≡ startIn seg' k) (g : beat ≡ floatOf start)
+        (own : stand .beat ≡ beat) (stopped : Stopped nums dens tempos stand) (is : v ≡ frameAtBeat t (tempoPoints nums dens tempos) (stand .beat)) where
       value : v ≡ line t words nums dens tempos k
       unfolding frameAtBar
-      value = is ∙ ap (frameAtBeat t (tempoPoints nums dens tempos)) (g ∙ ap floatOf (e ∙ has .start))
+      value = is ∙ ap (frameAtBeat t (tempoPoints nums dens tempos)) (own ∙ g ∙ ap floatOf (e ∙ has .start))
 
-      pub filled-more : Filled t words nums dens tempos n (set out k v) seg' next stand' (k + 1)
-      filled-more =
+      filled : {one other : Stand} → Serves nums dens tempos (one .beat) one → Serves nums dens tempos (other .beat) other → Filled t words nums dens tempos n (set out k v) seg' one other (k + 1)
+      filled s u =
           record {
             long = length-set out k v ∙ f .long;
             below = below-more (λ (j : ℕ). getD (set out k v) j 0 ≡ line t words nums dens tempos j) k (λ j l. getD-set-other out k j v 0 (ne-of-lt l) ∙ f .below j l)
                 (getD-set-same out k v 0 inside ∙ value);
             marks = λ j h l. getD-set-other out k j v 0 (λ d. omega arith) ∙ f .marks j (omega arith) l;
             segment = has .next;
-            tempo = stopped .serves;
+            first = s;
+            second = u;
           }
+
+      -- the walk that was taken takes the place of either of the two
+      pub filled-ahead : Filled t words nums dens tempos n (set out k v) seg' stand behind (k + 1)
+      filled-ahead = filled (stopped .serves) (f .second)
+
+      pub filled-behind : Filled t words nums dens tempos n (set out k v) seg' ahead stand (k + 1)
+      filled-behind = filled (f .first) (stopped .serves)

@@ -14,11 +14,11 @@ use Rattle.tempo.specs.Tempos.{tempoOf, elapsed}
 use Rattle.tempo.proofs.Laws.{begins, ends, stops, goes}
 use Rattle.timeline.specs.Places.{Parallel}
 use Rattle.filler.specs.declared.stands.Stand.{Stand}
-use Rattle.filler.specs.Carried.{Answers, Serves, Stopped}
+use Rattle.filler.specs.Carried.{Answers, Serves, ServesAll, Stopped}
 use Rattle.rounding.proofs.Laws.{le-trans-float}
 
-abbrev pub stand : Float → Float → Float → ℕ → Stand
-stand secs from tempo next = record { secs = secs; from = from; tempo = tempo; next = next }
+abbrev pub stand : Float → Float → Float → Float → ℕ → Stand
+stand beat secs from tempo next = record { beat = beat; secs = secs; from = from; tempo = tempo; next = next }
 
 abbrev stop : Float → Float → Float → Bool
 stop beat at there = le beat at
@@ -30,10 +30,10 @@ module _ (nums : List ℤ) (dens tempos : List ℕ) (even : Parallel nums dens t
   -- ---- from one beat to another
 
   -- the beginning serves every beat
-  pub serves-begin : (beat tempo : Float) → (0 < length nums → tempo ≡ tempoOf (getD tempos 0 0)) → Serves nums dens tempos beat (stand float0 float0 tempo 1)
-  serves-begin beat tempo is = record { own = answers beat; later = λ further h. answers further }
+  pub serves-begin : (tempo : Float) → (0 < length nums → tempo ≡ tempoOf (getD tempos 0 0)) → ServesAll nums dens tempos (stand float0 float0 float0 tempo 1)
+  serves-begin tempo is beat = record { own = answers beat; later = λ further h. answers further }
     where
-      answers : (b : Float) → Answers nums dens tempos b (stand float0 float0 tempo 1)
+      answers : (b : Float) → Answers nums dens tempos b (stand float0 float0 float0 tempo 1)
       answers b h = begins nums dens tempos (even .even-dens) (even .even-tempos) (stop b) (final b) h tempo (is h)
 
   -- what serves a beat serves each that is not before it
@@ -44,24 +44,28 @@ module _ (nums : List ℤ) (dens tempos : List ℕ) (even : Parallel nums dens t
 
   -- ---- the walk
 
-  module _ (beat secs from tempo : Float) (i : ℕ) (s : Serves nums dens tempos beat (stand secs from tempo i)) where
-    pub stopped-end : length nums ≤ i → Stopped nums dens tempos beat (stand secs from tempo i)
+  -- what is taken to a beat has that as its own
+  pub serves-own : (beat : Float) (w : Stand) → Serves nums dens tempos beat w → Serves nums dens tempos beat (stand beat (w .secs) (w .from) (w .tempo) (w .next))
+  serves-own beat w s = record { own = s .own; later = s .later }
+
+  module _ (beat secs from tempo : Float) (i : ℕ) (s : Serves nums dens tempos beat (stand beat secs from tempo i)) where
+    pub stopped-end : length nums ≤ i → Stopped nums dens tempos (stand beat secs from tempo i)
     stopped-end h =
         record { serves = s; seconds = λ p. ends nums dens tempos (even .even-dens) (even .even-tempos) (stop beat) (final beat) i secs from tempo _ (s .own p) h }
 
     module _ (h : i < length nums) (num : ℤ) (reads : num ≡ getD nums i (pos 0)) (at : Float) (is : at ≡ beatFloat num (getD dens i 0)) where
-      pub stopped-here : le beat at ≡ true → Stopped nums dens tempos beat (stand secs from tempo i)
+      pub stopped-here : le beat at ≡ true → Stopped nums dens tempos (stand beat secs from tempo i)
       stopped-here t =
           record { serves = s; seconds = λ p. stops nums dens tempos (even .even-dens) (even .even-tempos) (stop beat) (final beat) i secs from tempo _ (s .own p) h num reads at is t }
 
-      pub serves-on : le beat at ≡ false → (there next : Float) → there ≡ elapsed secs from at tempo → next ≡ tempoOf (getD tempos i 0) → Serves nums dens tempos beat (stand there at next (i + 1))
+      pub serves-on : le beat at ≡ false → (there next : Float) → there ≡ elapsed secs from at tempo → next ≡ tempoOf (getD tempos i 0) → Serves nums dens tempos beat (stand beat there at next (i + 1))
       serves-on t there next e f =
           record {
             own = on beat (s .own) t;
             later = λ further k. on further (s .later further k) (not-stopped further k (le further at) refl);
           }
         where
-          on : (b : Float) → Answers nums dens tempos b (stand secs from tempo i) → le b at ≡ false → Answers nums dens tempos b (stand there at next (i + 1))
+          on : (b : Float) → Answers nums dens tempos b (stand beat secs from tempo i) → le b at ≡ false → Answers nums dens tempos b (stand beat there at next (i + 1))
           on b answers u p = rw e (goes nums dens tempos (even .even-dens) (even .even-tempos) (stop b) (final b) i secs from tempo _ (answers p) h num reads at is next f u)
 
           not-stopped : (further : Float) → T (le beat further) → (b : Bool) → le further at ≡ b → le further at ≡ false

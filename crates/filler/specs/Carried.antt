@@ -81,7 +81,10 @@ module _ (nums : List ℤ) (dens tempos : List ℕ) where
     pub own : Answers beat w
     pub later : (further : Float) → T (le beat further) → Answers further w
 
-  -- and the beat lies in the stretch of one tempo where it stands
-  pub record Stopped (beat : Float) (w : Stand) : Type 0 where
-    pub serves : Serves beat w
-    pub seconds : 0 < length nums → elapsed (w .secs) (w .from) beat (w .tempo) ≡ secondsAtBeat (tempoPoints nums dens tempos) beat
+  abbrev pub ServesAll : Stand → Type 0
+  ServesAll w = (beat : Float) → Serves beat w
+
+  -- the walk was taken to its own beat, which lies in the stretch of one tempo where it stands
+  pub record Stopped (w : Stand) : Type 0 where
+    pub serves : Serves (w .beat) w
+    pub seconds : 0 < length nums → elapsed (w .secs) (w .from) (w .beat) (w .tempo) ≡ secondsAtBeat (tempoPoints nums dens tempos) (w .beat)

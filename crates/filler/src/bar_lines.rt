@@ -1,4 +1,6 @@
-// The lines one after the other, each from what the one before it has left.
+// The lines one after the other, each from what those before it have left. A start that overflows
+// is (2^63 - 1)/1, and the next may be an ordinary one again; so two walks over the tempo map are
+// kept, `ahead` to the latest beat so far and `behind` to the last that fell behind it.
 use crate::marks;
 use crate::segments;
 use crate::stands;
@@ -26,16 +28,21 @@ pub fn fill(
 {
     marks::mark(words, out);
     let mut seg = segments::open(t, words);
-    let mut beat: f64 = 0.0;
-    let mut stand = stands::begin(nums, dens, tempos, beat);
+    let mut ahead = stands::begin(nums, dens, tempos);
+    let mut behind = ahead;
     let mut k: usize = 0;
     while k < out.len() {
         let bar = k as u32;
         seg = segments::on_to(t, words, bar, out[k], seg);
-        let next = frames::float_of(segments::start_in(seg, bar));
-        stand = stands::go_to(nums, dens, tempos, beat, next, stand);
-        beat = next;
-        out[k] = stands::frame_at(t, nums, dens, tempos, beat, stand);
+        let beat = frames::float_of(segments::start_in(seg, bar));
+        let from = stands::resume(nums, dens, tempos, beat, ahead, behind);
+        let stand = stands::walk_to(nums, dens, tempos, beat, from);
+        out[k] = stands::frame_at(t, nums, dens, tempos, stand);
+        if ahead.beat <= beat {
+            ahead = stand;
+        } else {
+            behind = stand;
+        }
         k += 1;
     }
 }

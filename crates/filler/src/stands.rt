@@ -1,5 +1,6 @@
-// Where the walk over a tempo map stands: before the point `next`, at the beat `from`, after `secs`
-// seconds, with the tempo `tempo`. The walk for a later beat may go on from there.
+// Where the walk over a tempo map stands that was taken to a beat: before the point `next`, at the
+// beat `from`, after `secs` seconds, with the tempo `tempo`. The walk for a later beat may go on from
+// there.
 use beats::Beat;
 use beats::frames;
 use tempo::walks;
@@ -8,9 +9,10 @@ use transport::Transport;
 ghost use mathlib.Core.Path.{_≡_};
 ghost use Rattle.tempo.specs.Tempos.{tempoPoints};
 ghost use Rattle.timeline.specs.Places.{Parallel, frameAtBeat};
-ghost use Rattle.filler.specs.Carried.{Serves, Stopped};
+ghost use Rattle.filler.specs.Carried.{Serves, ServesAll, Stopped};
 
 pub struct Stand {
+    pub beat: f64,
     pub secs: f64,
     pub from: f64,
     pub tempo: f64,
@@ -18,11 +20,12 @@ pub struct Stand {
 }
 
 // The beginning serves every beat.
-pub fn begin(nums: &[i64], dens: &[u32], tempos: &[u32], beat: f64) -> Stand
+pub fn begin(nums: &[i64], dens: &[u32], tempos: &[u32]) -> Stand
     requires { ⌜ Parallel (now nums) (now dens) (now tempos) ⌝ }
-    ensures { λ r. ⌜ Serves (now (nums .entry)) (now (dens .entry)) (now (tempos .entry)) beat r ⌝ }
+    ensures { λ r. ⌜ ServesAll (now (nums .entry)) (now (dens .entry)) (now (tempos .entry)) r ⌝ }
 {
     Stand {
+        beat: 0.0,
         secs: 0.0,
         from: 0.0,
         tempo: if tempos.len() == 0 {
@@ -34,25 +37,36 @@ pub fn begin(nums: &[i64], dens: &[u32], tempos: &[u32], beat: f64) -> Stand
     }
 }
 
-// Where to go on for a beat: from where the walk stands, or, where the beat falls, from the
-// beginning.
-fn resume(nums: &[i64], dens: &[u32], tempos: &[u32], last: f64, beat: f64, w: Stand) -> Stand
+// Where to go on for a beat: from the walk that is ahead; where the beat falls behind it, from the
+// other one; and where it falls behind both, from the beginning.
+pub fn resume(
+    nums: &[i64],
+    dens: &[u32],
+    tempos: &[u32],
+    beat: f64,
+    ahead: Stand,
+    behind: Stand,
+) -> Stand
     requires { ⌜ Parallel (now nums) (now dens) (now tempos) ⌝ }
-    requires { ⌜ Serves (now nums) (now dens) (now tempos) last w ⌝ }
+    requires { ⌜ Serves (now nums) (now dens) (now tempos) (ahead .beat) ahead ⌝ }
+    requires { ⌜ Serves (now nums) (now dens) (now tempos) (behind .beat) behind ⌝ }
     ensures { λ r. ⌜ Serves (now (nums .entry)) (now (dens .entry)) (now (tempos .entry)) beat r ⌝ }
 {
-    if last <= beat {
-        w
-    } else {
-        begin(nums, dens, tempos, beat)
+    if ahead.beat <= beat {
+        return ahead;
     }
+    if behind.beat <= beat {
+        return behind;
+    }
+    begin(nums, dens, tempos)
 }
 
 // Past the points that lie before a beat.
-fn walk_to(nums: &[i64], dens: &[u32], tempos: &[u32], beat: f64, w: Stand) -> Stand
+pub fn walk_to(nums: &[i64], dens: &[u32], tempos: &[u32], beat: f64, w: Stand) -> Stand
     requires { ⌜ Parallel (now nums) (now dens) (now tempos) ⌝ }
     requires { ⌜ Serves (now nums) (now dens) (now tempos) beat w ⌝ }
-    ensures { λ r. ⌜ Stopped (now (nums .entry)) (now (dens .entry)) (now (tempos .entry)) beat r ⌝ }
+    ensures { λ r. ⌜ r .beat ≡ beat ⌝ }
+    ensures { λ r. ⌜ Stopped (now (nums .entry)) (now (dens .entry)) (now (tempos .entry)) r ⌝ }
 {
     let mut secs: f64 = w.secs;
     let mut from: f64 = w.from;
@@ -65,6 +79,7 @@ fn walk_to(nums: &[i64], dens: &[u32], tempos: &[u32], beat: f64, w: Stand) -> S
         });
         if beat <= at {
             return Stand {
+                beat,
                 secs,
                 from,
                 tempo,
@@ -77,6 +92,7 @@ fn walk_to(nums: &[i64], dens: &[u32], tempos: &[u32], beat: f64, w: Stand) -> S
         i += 1;
     }
     Stand {
+        beat,
         secs,
         from,
         tempo,
@@ -84,36 +100,14 @@ fn walk_to(nums: &[i64], dens: &[u32], tempos: &[u32], beat: f64, w: Stand) -> S
     }
 }
 
-// From the beat of one line to that of the next.
-pub fn go_to(nums: &[i64], dens: &[u32], tempos: &[u32], last: f64, beat: f64, w: Stand) -> Stand
-    requires { ⌜ Parallel (now nums) (now dens) (now tempos) ⌝ }
-    requires { ⌜ Serves (now nums) (now dens) (now tempos) last w ⌝ }
-    ensures { λ r. ⌜ Stopped (now (nums .entry)) (now (dens .entry)) (now (tempos .entry)) beat r ⌝ }
-{
-    walk_to(
-        nums,
-        dens,
-        tempos,
-        beat,
-        resume(nums, dens, tempos, last, beat, w),
-    )
-}
-
 // The frame of the beat that the walk was taken to. Where the map has no points there is no walk.
-pub fn frame_at(
-    t: Transport,
-    nums: &[i64],
-    dens: &[u32],
-    tempos: &[u32],
-    beat: f64,
-    w: Stand,
-) -> u64
+pub fn frame_at(t: Transport, nums: &[i64], dens: &[u32], tempos: &[u32], w: Stand) -> u64
     requires { ⌜ Parallel (now nums) (now dens) (now tempos) ⌝ }
-    requires { ⌜ Stopped (now nums) (now dens) (now tempos) beat w ⌝ }
-    ensures { λ r. ⌜ r ≡ frameAtBeat t (tempoPoints (now (nums .entry)) (now (dens .entry)) (now (tempos .entry))) beat ⌝ }
+    requires { ⌜ Stopped (now nums) (now dens) (now tempos) w ⌝ }
+    ensures { λ r. ⌜ r ≡ frameAtBeat t (tempoPoints (now (nums .entry)) (now (dens .entry)) (now (tempos .entry))) (w .beat) ⌝ }
 {
     if nums.len() == 0 {
-        return places::frame_at_beat(t, beat, nums, dens, tempos);
+        return places::frame_at_beat(t, w.beat, nums, dens, tempos);
     }
-    frames::frames_at(walks::later(w.secs, w.from, beat, w.tempo), t.sample_rate)
+    frames::frames_at(walks::later(w.secs, w.from, w.beat, w.tempo), t.sample_rate)
 }

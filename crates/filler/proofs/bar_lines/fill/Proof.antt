@@ -1,5 +1,6 @@
 -- The loop keeps both carried states, so that each line is that of its bar asked by itself.
 use mathlib.Core.Path.{_∙_, ap}
+use mathlib.Core.Logic.{⊎-elim}
 use Prim.Native.Nat.{_-_, _<_}
 use native.Mathlib.Omega.{arith}
 use lib.ListN.{length}
@@ -9,15 +10,15 @@ use Rattle.meter.specs.Meters.{pointsOf}
 use Rattle.tempo.specs.Tempos.{tempoPoints}
 use Rattle.filler.specs.Fills.{barLines}
 use Rattle.filler.proofs.Standing.{within}
-use Rattle.filler.proofs.Filling.{Filled, filled-none, filled-all, mark-here, filled-more}
+use Rattle.filler.proofs.Filling.{Filled, filled-none, filled-all, mark-here, filled-ahead, filled-behind}
 use Rattle.filler.proofs.bar_lines.fill.Statement.{statement}
 use Rattle.filler.proofs.bar_lines.fill.Tie as tie
 
 abbrev Inv-loop : tie.InvT-loop
-Inv-loop t words nums dens tempos out₀ seg₀ beat₀ stand₀ k₀ out seg beat stand k = Filled t words nums dens tempos (length out₀) out seg beat stand k
+Inv-loop t words nums dens tempos out₀ seg₀ ahead₀ behind₀ k₀ out seg ahead behind k = Filled t words nums dens tempos (length out₀) out seg ahead behind k
 
 abbrev μ-loop : tie.MeasureT-loop
-μ-loop t words nums dens tempos out₀ seg₀ beat₀ stand₀ k₀ out seg beat stand k = length out₀ - k
+μ-loop t words nums dens tempos out₀ seg₀ ahead₀ behind₀ k₀ out seg ahead behind k = length out₀ - k
 
 mark-requires : tie.Need-mark-requires Inv-loop μ-loop
 mark-requires c κs = search needs
@@ -32,7 +33,7 @@ loop-holds : tie.Need-loop-holds Inv-loop μ-loop
 loop-holds c =
     let s = c .before .before .before .before .before .before .before .before .before .before in
     let a = s .args in
-    filled-none (a .t) (now (a .words)) (now (a .nums)) (now (a .dens)) (now (a .tempos)) (length (now (a .out))) _ _ _ _ (c .before .before .before .before .mark .ensures) (c .before .«open» .ensures) (c .begin .ensures)
+    filled-none (a .t) (now (a .words)) (now (a .nums)) (now (a .dens)) (now (a .tempos)) (length (now (a .out))) _ _ _ (c .before .before .before .before .mark .ensures) (c .before .«open» .ensures) (c .begin .ensures)
 
 -- the lines are few
 few : (c : tie.In-loop Inv-loop μ-loop) → c .before .loop .k < 65536
@@ -61,29 +62,43 @@ start-in-requires c κs =
 float-of-requires : tie.Need-float-of-requires Inv-loop μ-loop
 float-of-requires c κs = search needs
 
-go-to-requires : tie.Need-go-to-requires Inv-loop μ-loop
-go-to-requires c κs = (c .before .before .before .before .before .before .before .before .before .before .before .before .before .before .before .before .pre .0, c .before .before .before .before .before .loop .inv .tempo)
+resume-requires : tie.Need-resume-requires Inv-loop μ-loop
+resume-requires c κs =
+    let s = c .before .before .before .before .before .before .before .before .before .before .before .before .before .before .before .before in
+    let l = c .before .before .before .before .before .loop in
+    (s .pre .0, (l .inv .first, l .inv .second))
+
+walk-to-requires : tie.Need-walk-to-requires Inv-loop μ-loop
+walk-to-requires c κs = (c .before .before .before .before .before .before .before .before .before .before .before .before .before .before .before .before .before .pre .0, c .resume .ensures)
 
 frame-at-requires : tie.Need-frame-at-requires Inv-loop μ-loop
-frame-at-requires c κs = (c .before .before .before .before .before .before .before .before .before .before .before .before .before .before .before .before .before .pre .0, c .go-to .ensures)
+frame-at-requires c κs = (c .before .before .before .before .before .before .before .before .before .before .before .before .before .before .before .before .before .before .pre .0, c .walk-to .ensures .1)
 
 mul-out : tie.Need-mul-out Inv-loop μ-loop
-mul-out c = omega (arith, few (c .before .before .before .before .before .before))
+mul-out c = omega (arith, few (c .before .before .before .before .before .before .before))
 
 slice-write-out : tie.Need-slice-write-out Inv-loop μ-loop
 slice-write-out c = search needs
 
 add-k : tie.Need-add-k Inv-loop μ-loop
-add-k c = omega (arith, few (c .before .before .before .before .before .before))
+add-k c = omega (arith, few (c .before .before .before .before .before .before .before .before .before))
 
 loop-less : tie.Need-loop-less Inv-loop μ-loop
-loop-less c = omega (arith, c .before .before .before .before .before .before .before .loop .inv .long, c .before .before .before .before .before .before .loop-test .taken)
+loop-less c = omega (arith, c .before .before .before .before .before .before .before .before .before .before .loop .inv .long, c .before .before .before .before .before .before .before .before .before .loop-test .taken)
 
 loop-again : tie.Need-loop-again Inv-loop μ-loop
 loop-again c =
-    let turn = c .before .before .before .before .before .before in
-    filled-more (turn .before .loop .inv) (turn .loop-test .taken) (c .before .before .before .before .on-to .ensures) (c .before .before .before .start-in .ensures)
-    (c .before .before .float-of .ensures) (c .before .go-to .ensures) (c .frame-at .ensures)
+    let turn = c .before .before .before .before .before .before .before .before .before in
+    let inv = turn .before .loop .inv in
+    let has = c .before .before .before .before .before .before .before .on-to .ensures in
+    let start = c .before .before .before .before .before .before .start-in .ensures in
+    let beat = c .before .before .before .before .before .float-of .ensures in
+    let walked = c .before .before .before .walk-to .ensures in
+    let frame = c .before .before .frame-at .ensures in
+    ⊎-elim
+    (λ w. rw (w .1, w .2) (filled-ahead inv (turn .loop-test .taken) has start beat (walked .0) (walked .1) frame))
+    (λ w. rw (w .1, w .2) (filled-behind inv (turn .loop-test .taken) has start beat (walked .0) (walked .1) frame))
+    (c .if1 .came)
 
 same-length : tie.Need-same-length Inv-loop μ-loop
 same-length c = search needs
@@ -111,7 +126,8 @@ fill-spec =
     on-to-requires
     start-in-requires
     float-of-requires
-    go-to-requires
+    resume-requires
+    walk-to-requires
     frame-at-requires
     mul-out
     slice-write-out

@@ -17,13 +17,13 @@ returns : tie.Need-returns
 unfolding ofBits
 returns c =
     let s = c .before .before .before in
-    serves-begin (now (s .args .nums)) (now (s .args .dens)) (now (s .args .tempos)) (s .pre) (s .args .beat) _ (λ h. absurd (omega (arith, s .pre .even-tempos, c .if1 .taken)))
+    serves-begin (now (s .args .nums)) (now (s .args .dens)) (now (s .args .tempos)) (s .pre) _ (λ h. absurd (omega (arith, s .pre .even-tempos, c .if1 .taken)))
 
 returns-2 : tie.Need-returns-2
 unfolding ofBits
 returns-2 c =
     let s = c .before .before .before .before .before in
-    serves-begin (now (s .args .nums)) (now (s .args .dens)) (now (s .args .tempos)) (s .pre) (s .args .beat) _ (λ h. c .tempo-of .ensures)
+    serves-begin (now (s .args .nums)) (now (s .args .dens)) (now (s .args .tempos)) (s .pre) _ (λ h. c .tempo-of .ensures)
 
 pub begin-spec : {M : Type 1} → statement M
 begin-spec = tie.close (tie.spec shared-slice-read-tempo-of tempo-of-requires returns returns-2)

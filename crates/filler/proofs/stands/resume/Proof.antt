@@ -1,4 +1,4 @@
--- The same stand serves a beat that is not before the last one, and the beginning serves every beat.
+-- A stand serves each beat that is not before its own, and the beginning serves every beat.
 use denote.Ref.{now}
 use Rattle.filler.proofs.Serving.{serves-later}
 use Rattle.filler.proofs.stands.resume.Statement.{statement}
@@ -6,14 +6,21 @@ use Rattle.filler.proofs.stands.resume.Tie as tie
 
 returns : tie.Need-returns
 returns c =
-    let s = c .before .before .before in
-    serves-later (now (s .args .nums)) (now (s .args .dens)) (now (s .args .tempos)) (s .pre .0) (s .args .last) (s .args .beat) (s .args .w) (c .if1 .taken) (s .pre .1)
-
-begin-requires : tie.Need-begin-requires
-begin-requires c κs = c .before .before .before .pre .0
+    let s = c .before .before .before .before in
+    let a = s .args in
+    serves-later (now (a .nums)) (now (a .dens)) (now (a .tempos)) (s .pre .0) (a .ahead .beat) (a .beat) (a .ahead) (c .if1 .taken) (s .pre .1 .0)
 
 returns-2 : tie.Need-returns-2
-returns-2 c = c .begin .ensures
+returns-2 c =
+    let s = c .before .before .before .before .before .before in
+    let a = s .args in
+    serves-later (now (a .nums)) (now (a .dens)) (now (a .tempos)) (s .pre .0) (a .behind .beat) (a .beat) (a .behind) (c .if2 .taken) (s .pre .1 .1)
+
+begin-requires : tie.Need-begin-requires
+begin-requires c κs = c .before .before .before .before .before .before .pre .0
+
+returns-3 : tie.Need-returns-3
+returns-3 c = c .begin .ensures (c .before .before .before .before .before .before .before .args .beat)
 
 pub resume-spec : {M : Type 1} → statement M
-resume-spec = tie.close (tie.spec begin-requires returns returns-2)
+resume-spec = tie.close (tie.spec returns returns-2 begin-requires returns-3)
