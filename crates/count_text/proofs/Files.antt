@@ -1,6 +1,6 @@
--- The answer by what was read from a file is the answer for the file; and a text put at the front counts as a part.
+-- The answer by what was read from a file is the answer for the file; other bytes are refused; and one byte more than the longest file is enough to read.
 use mathlib.Core.Path.{_≡_, sym, ap, _∙_}
-use mathlib.Core.Bool.{Bool, true}
+use mathlib.Core.Bool.{Bool, true, false}
 use mathlib.Core.List.{List}
 use Prim.Native.Nat.{ℕ, _*_}
 use lib.ListN.{take}
@@ -12,15 +12,16 @@ use Rattle.beats.specs.declared.Beat.{Beat}
 use Rattle.fits.specs.Decision.{fitsBool}
 use Rattle.score.specs.declared.Score.{Score}
 use Rattle.score.specs.declared.ScoreAnswer.{ScoreAnswer}
-use Rattle.score.specs.declared.ScoreAnswer.the-variants.{Read, BadFile}
+use Rattle.score.specs.declared.ScoreAnswer.the-variants.{Read}
 use Rattle.score.specs.Format.{isScore, scoreOf, meterWords}
-use Rattle.score.specs.Answers.{scoreAnswer, after}
+use Rattle.score.specs.Answers.{scoreAnswer, refusalText, after}
 use Rattle.score.specs.Readings.{readScore}
-use Rattle.score.proofs.Laws.{bad-file, good-file, says, meter-front}
+use Rattle.score.proofs.Laws as score
+use Rattle.score.proofs.Laws.{good-file, says, meter-front}
 use Rattle.spelling.specs.declared.BeatWord.{BeatWord}
 use Rattle.spelling.specs.declared.BeatWord.the-variants as B
 use Rattle.spelling.specs.Words.{beatOf}
-use Rattle.count_text.specs.Answers.{linesText, answerText, notBeatText, askedText, badFileText, countText}
+use Rattle.count_text.specs.Answers.{linesText, answerText, notBeatText, askedText, countText}
 
 -- ---- the lines, by the score
 
@@ -45,11 +46,15 @@ module _ (map : List MeterPoint) (default : ℕ) (pickup : Pickup) where
 
 -- ---- the file
 
-module _ (file word : List ℕ) where
-  pub refusal-is : {r : ScoreAnswer} → r ≡ BadFile → readScore r ≡ scoreAnswer file → badFileText ≡ countText file word
+module _ (word : List ℕ) where
+  pub other-is : (file : List ℕ) → isScore file ≡ false → refusalText ≡ countText file word
   unfolding countText
-  refusal-is is e = simp (bad-file file is e)
+  other-is file none = simp none
 
+  pub read-enough : (file : List ℕ) → countText (take 19505 file) word ≡ countText file word
+  read-enough = score.read-enough (λ file. countText file word) refusalText other-is
+
+module _ (file word : List ℕ) where
   good-is : isScore file ≡ true
       → askedText (pointsOf (meterWords file)) (scoreOf file .beats) (scoreOf file .pickup) (beatOf word) ≡ countText file word
   unfolding countText

@@ -10,6 +10,7 @@ use Rattle.meter.specs.Meters.{pointsOf}
 use Rattle.meter.specs.Counts.{countAt}
 use Rattle.fits.specs.Decision.{fitsBool}
 use Rattle.score.specs.Format.{isScore, scoreOf, meterWords}
+use Rattle.score.specs.Answers.{refusalText}
 use Rattle.spelling.specs.declared.BeatWord.{BeatWord}
 use Rattle.spelling.specs.declared.BeatWord.the-variants.{Read, NotNumber, NotBeat}
 use Rattle.spelling.specs.Words.{beatOf}
@@ -83,10 +84,6 @@ linesText count fits beat = (countLine count beat ++ fitsLine fits) ++ rowLine c
 
 -- ---- from a file and a word
 
--- `refused 13`
-abbrev pub badFileText : List ℕ
-badFileText = 114 ∷ 101 ∷ 102 ∷ 117 ∷ 115 ∷ 101 ∷ 100 ∷ 32 ∷ 49 ∷ 51 ∷ 10 ∷ []
-
 -- `refused 1`
 abbrev pub notBeatText : List ℕ
 notBeatText = 114 ∷ 101 ∷ 102 ∷ 117 ∷ 115 ∷ 101 ∷ 100 ∷ 32 ∷ 49 ∷ 10 ∷ []
@@ -104,4 +101,4 @@ module _ (map : List MeterPoint) (default : ℕ) (pickup : Pickup) where
 
 -- the answer for a score file and a word, and of other bytes the refusal alone, whatever the word is
 unfoldable pub countText : List ℕ → List ℕ → List ℕ
-countText file word = cond (isScore file) (askedText (pointsOf (meterWords file)) (scoreOf file .beats) (scoreOf file .pickup) (beatOf word)) badFileText
+countText file word = cond (isScore file) (askedText (pointsOf (meterWords file)) (scoreOf file .beats) (scoreOf file .pickup) (beatOf word)) refusalText

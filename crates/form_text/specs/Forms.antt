@@ -9,6 +9,7 @@ use Rattle.meter.specs.declared.Pickup.{Pickup}
 use Rattle.meter.specs.declared.Pickup.the-variants.{Absent, Present}
 use Rattle.score.specs.declared.Score.{Score}
 use Rattle.score.specs.Format.{isScore, scoreOf, meterWords, tempoNums, tempoDens, tempoBits}
+use Rattle.score.specs.Answers.{refusalText}
 use Rattle.text.specs.Texts.{decimal, beatText}
 use Rattle.form_text.specs.TempoTexts.{tempoText}
 
@@ -28,10 +29,6 @@ pickupWord = 112 ∷ 105 ∷ 99 ∷ 107 ∷ 117 ∷ 112 ∷ 32 ∷ []
 
 abbrev pub meterWord : List ℕ
 meterWord = 109 ∷ 101 ∷ 116 ∷ 101 ∷ 114 ∷ 32 ∷ []
-
--- `refused 13`
-abbrev pub refusalText : List ℕ
-refusalText = 114 ∷ 101 ∷ 102 ∷ 117 ∷ 115 ∷ 101 ∷ 100 ∷ 32 ∷ 49 ∷ 51 ∷ 10 ∷ []
 
 -- ---- lines. (10 is a line end, 32 a blank, 47 a slash.)
 

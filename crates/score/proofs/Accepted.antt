@@ -85,7 +85,7 @@ module _ (b : List ℕ) where
     bits-front old = front (tempoBits b) old (tempoCount b) (each-length (wordAt b) _ 16 (tempoCount b))
 
   -- longer bytes are none
-  pub too-long : 19504 < length b → isScore b ≡ false
+  too-long : 19504 < length b → isScore b ≡ false
   too-long h = cases (isScore b) (λ t. absurd (omega (arith, longest t))) (λ t. t)
 
 -- ---- a score that was read
@@ -131,10 +131,10 @@ module _ (b : List ℕ) {r : ScoreAnswer} {s : Score} (is : r ≡ Read s) (e : r
 
 -- ---- a longer input
 
--- A program may read one byte more than the longest score file. What it makes of that is what it would make of the whole input: a longer input is no score file,
--- and what was read of it is none either.
-pub read-enough : {A : Type 0} (make : List ℕ → A) (none : A) → ((b : List ℕ) → 19504 < length b → make b ≡ none) → (b : List ℕ) → make (take 19505 b) ≡ make b
-read-enough make none over b = by-order 19505 (length b) long (λ h. ap make (take-all 19505 b h))
+-- A program that makes one thing of all bytes that are no score file may read one byte more than the longest. What it makes of that is what it would make of the
+-- whole input: a longer input is no score file, and what was read of it is none either.
+pub read-enough : {A : Type 0} (make : List ℕ → A) (none : A) → ((b : List ℕ) → isScore b ≡ false → none ≡ make b) → (b : List ℕ) → make (take 19505 b) ≡ make b
+read-enough make none other b = by-order 19505 (length b) long (λ h. ap make (take-all 19505 b h))
   where
     long : 19505 < length b → make (take 19505 b) ≡ make b
-    long h = over (take 19505 b) (omega (arith, length-take-le 19505 b (omega arith))) ∙ sym (over b (omega arith))
+    long h = sym (other (take 19505 b) (too-long _ (omega (arith, length-take-le 19505 b (omega arith))))) ∙ other b (too-long b (omega arith))

@@ -7,7 +7,7 @@ pub use Rattle.score.proofs.Accepted.{few-meters, few-tempos, meter-fro
 -- a score that was read has these limits, and a pickup that is absent or a beat; what is made of it is made of what the file says
 pub use Rattle.score.proofs.Accepted.{meters-few, tempos-few, pickup-sound, made-of-file}
 -- and so has the length
-pub use Rattle.score.proofs.Accepted.{longest, too-long}
+pub use Rattle.score.proofs.Accepted.{longest}
 -- one byte more than the longest settles what a program makes of an input
 pub use Rattle.score.proofs.Accepted.{read-enough}
 -- no two cases of the answer read alike

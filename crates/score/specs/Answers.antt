@@ -1,6 +1,6 @@
 -- Reading a score file: refused by 13 alone, with nothing changed; else what it says, its points at the front of the lent lists.
 use mathlib.Core.Bool.{cond}
-use mathlib.Core.List.{List, [], _++_}
+use mathlib.Core.List.{List, [], _∷_, _++_}
 use Prim.Native.Nat.{ℕ}
 use lib.ListN.{length, drop}
 use Rattle.numbers.specs.Answers.{Answer, accepted, refused}
@@ -9,6 +9,10 @@ use Rattle.score.specs.Format.{isScore, scoreOf}
 
 unfoldable pub scoreAnswer : List ℕ → Answer Score
 scoreAnswer bytes = cond (isScore bytes) (accepted (scoreOf bytes)) (refused 13 [])
+
+-- `refused 13`, and a line end: what a program prints for bytes that are no score file
+abbrev pub refusalText : List ℕ
+refusalText = 114 ∷ 101 ∷ 102 ∷ 117 ∷ 115 ∷ 101 ∷ 100 ∷ 32 ∷ 49 ∷ 51 ∷ 10 ∷ []
 
 -- a lent list that was `old`, after `new` was read into it: later elements stay
 unfoldable pub after : {A : Type 0} → List ℕ → List A → List A → List A

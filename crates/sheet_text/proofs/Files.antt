@@ -1,5 +1,6 @@
--- The sheet of what was read from a file is the sheet of the file; and a text put at the front counts as a part.
+-- The sheet of what was read from a file is the sheet of the file; other bytes are refused; and one byte more than the longest file is enough to read.
 use mathlib.Core.Path.{_≡_, ap}
+use mathlib.Core.Bool.{false}
 use mathlib.Core.List.{List}
 use Prim.Native.Nat.{ℕ, _*_}
 use lib.IntN.{ℤ}
@@ -10,24 +11,28 @@ use Rattle.tempo.specs.Tempos.{TempoPoint, tempoPoints}
 use Rattle.transport.specs.declared.Transport.{Transport}
 use Rattle.score.specs.declared.Score.{Score}
 use Rattle.score.specs.declared.ScoreAnswer.{ScoreAnswer}
-use Rattle.score.specs.declared.ScoreAnswer.the-variants.{Read, BadFile}
-use Rattle.score.specs.Format.{meterWords, tempoNums, tempoDens, tempoBits}
-use Rattle.score.specs.Answers.{scoreAnswer, after}
+use Rattle.score.specs.declared.ScoreAnswer.the-variants.{Read}
+use Rattle.score.specs.Format.{isScore, meterWords, tempoNums, tempoDens, tempoBits}
+use Rattle.score.specs.Answers.{scoreAnswer, refusalText, after}
 use Rattle.score.specs.Readings.{readScore}
-use Rattle.score.proofs.Laws.{bad-file, made-of-file}
+use Rattle.score.proofs.Laws as score
+use Rattle.score.proofs.Laws.{made-of-file}
 use Rattle.text.specs.Texts.{Puts}
 use Rattle.text.proofs.Laws.{retext}
-use Rattle.sheet_text.specs.Sheets.{sheetOf, clockOf, refusalText, sheetText}
+use Rattle.sheet_text.specs.Sheets.{sheetOf, clockOf, sheetText}
 
 pub by-clock : (map : List MeterPoint) (points : List TempoPoint) {t u : Transport} {r : ℕ} {out now : List ℕ}
     → t ≡ u → Puts 0 (sheetOf t map points) out r now → Puts 0 (sheetOf u map points) out r now
 by-clock map points e x = retext (ap (λ (v : Transport). sheetOf v map points) e) x
 
-module _ (b : List ℕ) {r : ScoreAnswer} where
-  pub refusal-is : r ≡ BadFile → readScore r ≡ scoreAnswer b → refusalText ≡ sheetText b
-  unfolding sheetText
-  refusal-is is e = simp (bad-file b is e)
+pub other-is : (b : List ℕ) → isScore b ≡ false → refusalText ≡ sheetText b
+unfolding sheetText
+other-is b none = simp none
 
+pub read-enough : (b : List ℕ) → sheetText (take 19505 b) ≡ sheetText b
+read-enough = score.read-enough sheetText refusalText other-is
+
+module _ (b : List ℕ) {r : ScoreAnswer} where
   pub sheet-is : {s : Score} → r ≡ Read s → readScore r ≡ scoreAnswer b → (meter₀ : List ℕ) (nums₀ : List ℤ) (dens₀ bits₀ : List ℕ)
       {meter : List ℕ} {nums : List ℤ} {dens bits : List ℕ} → meter ≡ after b (meterWords b) meter₀ → nums ≡ after b (tempoNums b) nums₀
       → dens ≡ after b (tempoDens b) dens₀ → bits ≡ after b (tempoBits b) bits₀

@@ -1,5 +1,4 @@
 pub mod Rows
 pub mod Files
-pub mod Cutting
 pub mod Example
 pub mod Laws

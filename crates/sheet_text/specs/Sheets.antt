@@ -13,6 +13,7 @@ use Rattle.transport.specs.Transports.{made}
 use Rattle.timeline.specs.Places.{frameAtBar}
 use Rattle.score.specs.declared.Score.{Score}
 use Rattle.score.specs.Format.{isScore, scoreOf, meterWords, tempoNums, tempoDens, tempoBits}
+use Rattle.score.specs.Answers.{refusalText}
 use Rattle.text.specs.Texts.{decimal, beatText}
 
 -- ---- lines
@@ -28,10 +29,6 @@ lineText label start frame = decimal label ++ (32 ∷ (beatText start ++ (32 ∷
 -- `bar start frame`
 abbrev pub headerText : List ℕ
 headerText = 98 ∷ 97 ∷ 114 ∷ 32 ∷ 115 ∷ 116 ∷ 97 ∷ 114 ∷ 116 ∷ 32 ∷ 102 ∷ 114 ∷ 97 ∷ 109 ∷ 101 ∷ 10 ∷ []
-
--- `refused 13`
-abbrev pub refusalText : List ℕ
-refusalText = 114 ∷ 101 ∷ 102 ∷ 117 ∷ 115 ∷ 101 ∷ 100 ∷ 32 ∷ 49 ∷ 51 ∷ 10 ∷ []
 
 -- ---- a sheet
 

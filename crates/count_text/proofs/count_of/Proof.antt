@@ -1,9 +1,9 @@
 -- Other bytes are refused; a score file's answer is that of what was read.
 use native.Mathlib.Omega.{arith}
 use borrow.Author.Needs.{needs}
-use Rattle.score.proofs.Laws.{meters-few, pickup-sound}
+use Rattle.score.proofs.Laws.{bad-file, meters-few, pickup-sound}
 use Rattle.text.proofs.Laws.{retext, counted}
-use Rattle.count_text.proofs.Files.{refusal-is, file-is}
+use Rattle.count_text.proofs.Files.{other-is, file-is}
 use Rattle.count_text.proofs.count_of.Statement.{statement}
 use Rattle.count_text.proofs.count_of.Tie as tie
 
@@ -33,7 +33,7 @@ returns : tie.Need-returns
 returns c =
     let told = c .before .before .before in
     let s = told .before .before .before .before .before .before .before .before .before .args in
-    let put = retext (refusal-is (s .file .now) (s .word .now) (told .enum-told .given .1) (told .before .before .read-score .ensures .0)) (c .bytes .ensures) in
+    let put = retext (other-is (s .word .now) _ (bad-file _ (told .enum-told .given .1) (told .before .before .read-score .ensures .0))) (c .bytes .ensures) in
     (put, counted put (omega (arith, put .next-is)))
 
 returns-2 : tie.Need-returns-2

@@ -1,9 +1,9 @@
 -- Other bytes are refused; a score file's sheet is that of what was read.
 use native.Mathlib.Omega.{arith}
 use borrow.Author.Needs.{needs}
-use Rattle.score.proofs.Laws.{meters-few, tempos-few}
+use Rattle.score.proofs.Laws.{bad-file, meters-few, tempos-few}
 use Rattle.text.proofs.Laws.{retext, counted}
-use Rattle.sheet_text.proofs.Files.{refusal-is, sheet-is}
+use Rattle.sheet_text.proofs.Files.{other-is, sheet-is}
 use Rattle.sheet_text.proofs.sheet_of.Statement.{statement}
 use Rattle.sheet_text.proofs.sheet_of.Tie as tie
 
@@ -32,7 +32,7 @@ sheet-requires c κs =
 returns : tie.Need-returns
 returns c =
     let told = c .before .before .before in
-    let put = retext (refusal-is _ (told .enum-told .given .1) (told .before .before .read-score .ensures .0)) (c .bytes .ensures) in
+    let put = retext (other-is _ (bad-file _ (told .enum-told .given .1) (told .before .before .read-score .ensures .0))) (c .bytes .ensures) in
     (put, counted put (omega (arith, put .next-is)))
 
 returns-2 : tie.Need-returns-2
