@@ -19,7 +19,7 @@ use Rattle.spelling.specs.declared.fractions.Signed.the-variants as S
 use Rattle.spelling.specs.Words.{numberOf, signedOf, denominatorOf, placeOf, fractionOf, beatOf, tempoOf}
 use Rattle.splits.specs.Splits.{part, Few, single, double, neither, few, same}
 use Rattle.items.specs.declared.Reason.{Reason}
-use Rattle.items.specs.declared.Reason.the-variants.{Unknown, Words, NotNumber, NotBeat, NotLowest, NotTempo, Unwritten}
+use Rattle.items.specs.declared.Reason.the-variants.{Unknown, Words, NotNumber, NotBeat, NotLowest, NotTempo, NotMeter, Unwritten}
 use Rattle.items.specs.declared.values.Value.{Value}
 use Rattle.items.specs.declared.values.Value.the-variants as Val
 use Rattle.items.specs.declared.values.BeatValue.{BeatValue}
@@ -70,6 +70,9 @@ lowest-told e = let z : _≡_ {A = ℕ} 0 1 = cc in omega arith
 
 tempo-told : Told NotTempo
 tempo-told e = let z : _≡_ {A = ℕ} 0 1 = cc in omega arith
+
+meter-told : Told NotMeter
+meter-told e = let z : _≡_ {A = ℕ} 0 1 = cc in omega arith
 
 -- ---- words
 
@@ -165,7 +168,7 @@ bar-fine : (value : Value) (word : List ℕ) → FineValue value → Fine (barBy
 unfolding barBy meterOver
 bar-fine (Val.Wrong reason) word h = h
 bar-fine (Val.Number bar) word h =
-    either (eqb (slashOf word) (length word)) _ _ number-told
+    either (eqb (slashOf word) (length word)) _ _ meter-told
     (over-fine bar _ _ (number-fine (numberOf (part word 0 (slashOf word)))) (number-fine (numberOf (part word (slashOf word + 1) (length word)))))
 
 meters-fine : (behind : Few) → Fine (meterItem behind)

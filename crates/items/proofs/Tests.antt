@@ -6,7 +6,7 @@ use borrow.Author.Tests.{eq-eqb, ne-eqb}
 use lib.ListN.{length}
 use Rattle.spelling.specs.Words.{numberOf, beatOf, tempoOf}
 use Rattle.splits.specs.Splits.{part}
-use Rattle.items.specs.declared.Reason.the-variants.{NotNumber}
+use Rattle.items.specs.declared.Reason.the-variants.{NotMeter}
 use Rattle.items.specs.declared.values.Value.{Value}
 use Rattle.items.specs.declared.values.BeatValue.{BeatValue}
 use Rattle.items.specs.declared.Item.the-variants as I
@@ -19,7 +19,7 @@ point-is place word {p} {v} e f = ap (λ (x : BeatValue). pointBy x v) e ∙ ap 
 
 -- two numbers with a slash between
 module _ (bar : ℕ) (word : List ℕ) (slash : ℕ) (e : slash ≡ slashOf word) where
-  pub no-slash : slash ≡ length word → I.Wrong NotNumber ≡ meterOver bar word
+  pub no-slash : slash ≡ length word → I.Wrong NotMeter ≡ meterOver bar word
   unfolding meterOver
   no-slash h = simp (eq-eqb (slashOf word) (length word) (sym e ∙ h))
 

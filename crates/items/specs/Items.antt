@@ -12,7 +12,7 @@ use Rattle.spelling.specs.declared.TempoWord.{TempoWord}
 use Rattle.spelling.specs.declared.TempoWord.the-variants as T
 use Rattle.spelling.specs.Words.{numberOf, beatOf, tempoOf}
 use Rattle.splits.specs.Splits.{other, past, part, Few, single, double, neither, few, same}
-use Rattle.items.specs.declared.Reason.the-variants.{Unknown, Words, NotNumber, NotBeat, NotLowest, NotTempo}
+use Rattle.items.specs.declared.Reason.the-variants.{Unknown, Words, NotNumber, NotBeat, NotLowest, NotTempo, NotMeter}
 use Rattle.items.specs.declared.values.Value.{Value}
 use Rattle.items.specs.declared.values.Value.the-variants as Val
 use Rattle.items.specs.declared.values.BeatValue.{BeatValue}
@@ -95,7 +95,7 @@ slashOf word = past (other 47) word 0
 unfoldable pub meterOver : ℕ → List ℕ → Item
 meterOver bar word =
     cond (eqb (slashOf word) (length word))
-    (I.Wrong NotNumber)
+    (I.Wrong NotMeter)
     (meterBy bar (numberValue (numberOf (part word 0 (slashOf word)))) (numberValue (numberOf (part word (slashOf word + 1) (length word)))))
 
 unfoldable pub barBy : Value → List ℕ → Item

@@ -74,7 +74,7 @@ fn meter_over(bar: u32, word: &[u8]) -> Item
     let slash = scan::until(word, 0, b'/');
     let end = word.len();
     if slash == end {
-        return Item::Wrong(Reason::NotNumber);
+        return Item::Wrong(Reason::NotMeter);
     }
     let start = 0;
     let behind = slash + 1;

@@ -18,9 +18,11 @@ pub enum Reason {
     NotNumber,
     // not the text of a beat
     NotBeat,
-    // the text of a beat that is not in lowest terms
+    // the text of a beat that is not in lowest terms, or is over 0
     NotLowest,
     NotTempo,
+    // a meter without a slash
+    NotMeter,
     // said before
     Twice,
     // over 256 meter points
