@@ -1,5 +1,5 @@
 -- A run goes on with a byte of its kind and stops at any other, and never goes past the end.
-use mathlib.Core.Path.{_≡_, ap, _∙_}
+use mathlib.Core.Path.{_≡_, sym, ap, _∙_}
 use mathlib.Core.Bool.{Bool, true, false}
 use mathlib.Core.List.{List, [], _∷_}
 use Prim.Native.Nat.{ℕ, suc, _+_, _≤_, _<_}
@@ -51,3 +51,18 @@ module _ (kind : ℕ → Bool) where
     past-end from e =
         let r : run kind (drop from text) ≡ 0 = ap (λ (k : ℕ). run kind (drop k text)) e ∙ ap (run kind) (drop-length text) in
         omega arith
+
+-- ---- a scan
+
+-- where a scan stands: the run from there on ends where the whole run does
+pub record Scanning (kind : ℕ → Bool) (text : List ℕ) (from place : ℕ) : Type 0 where
+  pub begun : from ≤ place
+  pub within : place ≤ length text
+  pub ahead : past kind text place ≡ past kind text from
+
+module _ {kind : ℕ → Bool} {text : List ℕ} {from place : ℕ} (at : Scanning kind text from place) where
+  pub goes-on : place < length text → kind (getD text place 0) ≡ true → Scanning kind text from (place + 1)
+  goes-on h e = record { begun = omega (arith, at .begun); within = omega arith; ahead = past-more kind text place h e ∙ at .ahead }
+
+  pub stops : past kind text place ≡ place → (place ≡ past kind text from) × (from ≤ place) × (place ≤ length text)
+  stops e = (sym e ∙ at .ahead, at .begun, at .within)
