@@ -8,7 +8,7 @@ use borrow.Author.Tests.{le-leb, lt-leb}
 use lib.IntN.{ℤ}
 use lib.ListN.{length}
 use Rattle.numbers.specs.Answers.{accepted, refused}
-use Rattle.tempo.proofs.Laws.{SoundMap}
+use Rattle.tempo.specs.Answers.{SoundMap}
 use Rattle.problems.specs.Problems.{Problem, listed, tempoProblems, written}
 use Rattle.problems.specs.Answers.{counted}
 use Rattle.problems.specs.Passes.{Ready, put}

@@ -8,7 +8,7 @@ use native.Mathlib.Omega.{arith}
 use lib.IntN.{ℤ}
 use lib.ListN.{length, getD, drop, drop-of-length-le}
 use Rattle.beats.specs.declared.Beat.{Beat}
-use Rattle.tempo.proofs.Laws.{SoundMap}
+use Rattle.tempo.specs.Answers.{SoundMap}
 use Rattle.problems.specs.Problems.{Listed, listed, tempoProblems}
 use Rattle.problems.specs.Passes.{listedAt, beatAt, tempoAt, tempoFrom}
 use Rattle.problems.proofs.Wholes.{tempo-whole}

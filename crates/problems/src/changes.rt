@@ -7,7 +7,7 @@ ghost use mathlib.Core.Path.{_≡_};
 ghost use Prim.Native.Nat.{_<_};
 ghost use lib.Ieee.{binary32, ofBits};
 ghost use lib.ListN.{length};
-ghost use Rattle.tempo.proofs.Laws.{SoundMap};
+ghost use Rattle.tempo.specs.Answers.{SoundMap};
 ghost use Rattle.problems.specs.Problems.{soundTempo, tempoBits, listed, tempoProblems, written};
 ghost use Rattle.problems.specs.Answers.{counted};
 ghost use Rattle.problems.specs.Readings.{readProblems};

@@ -1,5 +1,5 @@
--- What is known of a map that the test finds sound, by the cases of its questions.
-use mathlib.Core.Path.{_≡_, refl}
+-- What the test of a map found, and what is known of a map that it finds sound, by the cases of its questions.
+use mathlib.Core.Path.{_≡_, refl, _∙_}
 use mathlib.Core.Bool.{Bool, true, false, _&&_, cond}
 use mathlib.Core.List.{List}
 use Prim.Native.Nat.{ℕ, _≤_}
@@ -8,14 +8,19 @@ use lib.Dec.{eqb, leb}
 use lib.IntN.{ℤ}
 use lib.ListN.{length}
 use borrow.Author.Tests.{eqb-true, leb-true}
+use Rattle.numbers.specs.Answers.{accepted}
+use Rattle.tempo.specs.declared.MapTest.{MapTest}
 use Rattle.tempo.specs.declared.MapTest.the-variants.{Sound, Uneven, TooLong, NotBeat}
-use Rattle.tempo.specs.Answers.{allBeats, mapTest}
+use Rattle.tempo.specs.Answers.{allBeats, mapTest, SoundMap, ifSound, testAnswer}
+use Rattle.tempo.specs.Readings.{readTest}
+use Rattle.tempo.proofs.Readings.{tests-apart}
 
-pub record SoundMap (nums : List ℤ) (dens tempos : List ℕ) : Type 0 where
-  pub even-dens : length dens ≡ length nums
-  pub even-tempos : length tempos ≡ length nums
-  pub short : length nums ≤ 65536
-  pub beats : allBeats nums dens ≡ true
+-- the answer of the test is what it found
+pub finding : (nums : List ℤ) (dens tempos : List ℕ) (r : MapTest) → readTest r ≡ testAnswer nums dens tempos → r ≡ mapTest nums dens tempos
+finding nums dens tempos r e = tests-apart r (mapTest nums dens tempos) (e ∙ read (mapTest nums dens tempos))
+  where
+    read : (f : MapTest) → ifSound f (accepted tt) ≡ readTest f
+    read f = elim f [ Sound ↦ refl | Uneven ↦ refl | TooLong ↦ refl | NotBeat ↦ refl ]
 
 pub sound : (nums : List ℤ) (dens tempos : List ℕ) → mapTest nums dens tempos ≡ Sound → SoundMap nums dens tempos
 unfolding mapTest

@@ -1,7 +1,8 @@
 -- The calls: 3, 4, 1 and 5 are tested in this order.
+use mathlib.Core.Path.{_≡_}
 use mathlib.Core.Bool.{Bool, true, cond, _&&_}
 use mathlib.Core.List.{List, [], _∷_}
-use Prim.Native.Nat.{ℕ}
+use Prim.Native.Nat.{ℕ, _≤_}
 use lib.Dec.{leb, eqb}
 use lib.IntN.{ℤ}
 use lib.Ieee.{Float}
@@ -25,12 +26,23 @@ mapTest nums dens tempos =
     (cond (leb (length nums) 65536) (cond (allBeats nums dens) Sound NotBeat) TooLong)
     Uneven
 
+-- a map that can be walked: none of the three applies
+pub record SoundMap (nums : List ℤ) (dens tempos : List ℕ) : Type 0 where
+  pub even-dens : length dens ≡ length nums
+  pub even-tempos : length tempos ≡ length nums
+  pub short : length nums ≤ 65536
+  pub beats : allBeats nums dens ≡ true
+
 -- what a call answers to a map that is sound, and to one that is not
 abbrev pub ifSound : {A : Type 0} → MapTest → Answer A → Answer A
 ifSound Sound answer = answer
 ifSound Uneven answer = refused 3 []
 ifSound TooLong answer = refused 4 []
 ifSound NotBeat answer = refused 1 []
+
+-- the test alone
+abbrev pub testAnswer : List ℤ → List ℕ → List ℕ → Answer Unit
+testAnswer nums dens tempos = ifSound (mapTest nums dens tempos) (accepted tt)
 
 -- 5 where there are no points
 abbrev pub ifPoints : {A : Type 0} → List ℤ → Answer A → Answer A

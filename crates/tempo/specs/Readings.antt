@@ -4,6 +4,8 @@ use lib.Ieee.{Float}
 use Rattle.numbers.specs.Answers.{Answer, accepted, refused}
 use Rattle.tempo.specs.declared.TempoAnswer.{TempoAnswer}
 use Rattle.tempo.specs.declared.TempoAnswer.the-variants.{Value, Uneven, TooLong, NotBeat, Empty}
+use Rattle.tempo.specs.declared.MapTest.{MapTest}
+use Rattle.tempo.specs.declared.MapTest.the-variants as M
 
 abbrev pub readTempo : TempoAnswer → Answer Float
 readTempo (Value x) = accepted x
@@ -11,3 +13,9 @@ readTempo Uneven = refused 3 []
 readTempo TooLong = refused 4 []
 readTempo NotBeat = refused 1 []
 readTempo Empty = refused 5 []
+
+abbrev pub readTest : MapTest → Answer Unit
+readTest M.Sound = accepted tt
+readTest M.Uneven = refused 3 []
+readTest M.TooLong = refused 4 []
+readTest M.NotBeat = refused 1 []

@@ -4,8 +4,8 @@
 // their map, call `walks`.
 ghost use mathlib.Core.Path.{_≡_};
 ghost use lib.ListN.{length};
-ghost use Rattle.tempo.specs.Answers.{allBeats, mapTest, secondsAnswer, tempoAnswer, beatAnswer};
-ghost use Rattle.tempo.specs.Readings.{readTempo};
+ghost use Rattle.tempo.specs.Answers.{allBeats, testAnswer, secondsAnswer, tempoAnswer, beatAnswer};
+ghost use Rattle.tempo.specs.Readings.{readTempo, readTest};
 use beats::Beat;
 
 pub mod walks;
@@ -47,7 +47,7 @@ fn all_beats(nums: &[i64], dens: &[u32]) -> bool
 
 // Whether a map can be walked: 3, 4 and 1 in this order.
 pub fn test(nums: &[i64], dens: &[u32], tempos: &[u32]) -> MapTest
-    ensures { λ r. ⌜ r ≡ mapTest (now (nums .entry)) (now (dens .entry)) (now (tempos .entry)) ⌝ }
+    ensures { λ r. ⌜ readTest r ≡ testAnswer (now (nums .entry)) (now (dens .entry)) (now (tempos .entry)) ⌝ }
 {
     if dens.len() != nums.len() {
         return MapTest::Uneven;

@@ -1,7 +1,7 @@
 -- The test's refusals change nothing; else the answer is that of the list of problems, of a map that the test found sound.
 use mathlib.Core.Path.{sym, _∙_}
 use borrow.Author.Needs.{needs}
-use Rattle.tempo.proofs.Laws.{sound}
+use Rattle.tempo.proofs.Laws.{finding, sound}
 use Rattle.problems.proofs.tempo_map_problems.Statement.{statement}
 use Rattle.problems.proofs.tempo_map_problems.Tie as tie
 
@@ -23,23 +23,23 @@ enum-told-4 c = search needs
 list-requires : tie.Need-list-requires
 list-requires c κs =
     let a = c .before .before .before .before .before .before .before .args in
-    sound (a .nums .now) (a .dens .now) (a .tempos .now) (sym (c .before .before .before .test .ensures) ∙ c .before .enum-told4 .given .1)
+    sound (a .nums .now) (a .dens .now) (a .tempos .now) (sym (finding _ _ _ _ (c .before .before .before .test .ensures)) ∙ c .before .enum-told4 .given .1)
 
 returns : tie.Need-returns
-returns c = let e = sym (c .before .before .test .ensures) ∙ c .enum-told .given .1 in (rw e, rw e)
+returns c = let e = sym (finding _ _ _ _ (c .before .before .test .ensures)) ∙ c .enum-told .given .1 in (rw e, rw e)
 
 returns-2 : tie.Need-returns-2
-returns-2 c = let e = sym (c .before .before .test .ensures) ∙ c .enum-told2 .given .1 in (rw e, rw e)
+returns-2 c = let e = sym (finding _ _ _ _ (c .before .before .test .ensures)) ∙ c .enum-told2 .given .1 in (rw e, rw e)
 
 returns-3 : tie.Need-returns-3
-returns-3 c = let e = sym (c .before .before .test .ensures) ∙ c .enum-told3 .given .1 in (rw e, rw e)
+returns-3 c = let e = sym (finding _ _ _ _ (c .before .before .test .ensures)) ∙ c .enum-told3 .given .1 in (rw e, rw e)
 
 same-length : tie.Need-same-length
 same-length c = search needs
 
 returns-4 : tie.Need-returns-4
 returns-4 c =
-    let e = sym (c .before .before .before .before .before .before .test .ensures) ∙ c .before .before .before .before .enum-told4 .given .1 in
+    let e = sym (finding _ _ _ _ (c .before .before .before .before .before .before .test .ensures)) ∙ c .before .before .before .before .enum-told4 .given .1 in
     let told = c .before .before .list .ensures in
     (rw e (told .0), rw e (told .1))
 

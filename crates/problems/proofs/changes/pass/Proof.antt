@@ -3,7 +3,7 @@ use native.Mathlib.Omega.{arith}
 use mathlib.Core.Path.{_≡_, refl}
 use Prim.Native.Nat.{_+_, _≤_, _-_}
 use lib.ListN.{length, drop}
-use Rattle.tempo.proofs.Laws.{SoundMap}
+use Rattle.tempo.specs.Answers.{SoundMap}
 use Rattle.problems.specs.Problems.{listed, tempoProblems}
 use Rattle.problems.specs.Passes.{Ready, beatAt, tempoAt, tempoFrom}
 use Rattle.problems.proofs.Listing.{pointAt, tempo-all, tempo-next, tempo-end}

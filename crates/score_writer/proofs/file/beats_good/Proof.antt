@@ -5,6 +5,7 @@ use borrow.Author.Needs.{needs}
 use lib.ListN.{take}
 use lib.Seq.{length-take-le}
 use Rattle.tempo.specs.Answers.{allBeats}
+use Rattle.tempo.proofs.Laws.{finding}
 use Rattle.score_writer.proofs.Putting.{isSound, sound-is}
 use Rattle.score_writer.proofs.file.beats_good.Statement.{statement}
 use Rattle.score_writer.proofs.file.beats_good.Tie as tie
@@ -18,7 +19,7 @@ found : (c : tie.After-test)
 found c =
     let s = start c in
     let n = length-take-le (s .args .count) (s .args .nums .now) (s .pre .1) in
-    ap isSound (c .test .ensures)
+    ap isSound (finding _ _ _ (c .test .result) (c .test .ensures))
     ∙ sound-is _ _ _ (length-take-le _ _ (s .pre .2) ∙ sym n) (length-take-le _ _ (s .pre .3) ∙ sym n) (omega arith)
 
 slice-aggregate-test : tie.Need-slice-aggregate-test
