@@ -2,11 +2,13 @@
 use mathlib.Core.Path.{_≡_, refl, sym, ap, _∙_, subst}
 use mathlib.Core.Bool.{Bool, true, false, not, true≢false}
 use mathlib.Core.List.{List, [], _∷_, _++_, append-eq-nil-iff}
-use Prim.Native.Nat.{ℕ, suc}
+use Prim.Native.Nat.{ℕ, suc, _*_}
+use native.Mathlib.Nat.{suc-ne-zero}
+use native.Mathlib.Omega.{arith}
 use lib.Dec.{T, ltb}
-use lib.IntN.{ℤ, pos}
+use lib.IntN.{ℤ, pos, negsuc}
 use lib.Ieee.{Float, inf, lt, le, binary32, ofBits}
-use borrow.Author.Tests.{not-false}
+use borrow.Author.Tests.{not-false, le-ltb, eqb-true}
 use lib.ListN.{length}
 use Rattle.numbers.proofs.Laws.{and-left, and-right}
 use Rattle.rounding.specs.Floats.{float0}
@@ -20,7 +22,7 @@ use Rattle.tempo.specs.Answers.{allBeats}
 use Rattle.tempo.specs.Tempos.{tempoOf, tempoPoints}
 use Rattle.tempo.specs.Rising.{Follows, RisingFrom, RisingMap}
 use Rattle.tempo.proofs.Laws.{finite-tempo}
-use Rattle.problems.specs.Problems.{problemIf, Listed, listed, soundTempo, tempoBits, tempoPointsAfter, tempoProblems}
+use Rattle.problems.specs.Problems.{problemIf, Listed, listed, soundTempo, tempoBits, tempoPointsAfter, isZero, tempoProblems}
 use Rattle.filler.specs.Promise.{allSmall}
 use Rattle.filler.proofs.Ordering.{Placed, exactly, zero-placed, placed-finite, placed-up, placed-below, smallBeat, placed-zero, placed-after, beat-zero}
 
@@ -72,6 +74,11 @@ rises index before (num ∷ nums) (den ∷ dens) (bits ∷ tempos) p b e s =
       rises (suc index) at nums dens tempos q (and-right (isBeat at) (allBeats nums dens) b) (others .1) (and-right (smallBeat exactly at) (allSmall (listed nums dens tempos)) s),
     )
 
+-- a beat that is 0 is not before 0
+zero-at : (num : ℤ) (den : ℕ) → isZero (record { num = num; den = den }) ≡ true → belowBeat (record { num = num; den = den }) (wholeBeat (pos 0)) ≡ false
+zero-at (pos n) den e = le-ltb (n * 1) (0 * den) (omega arith)
+zero-at (negsuc n) den e = absurd (suc-ne-zero n (eqb-true (suc n) 0 e))
+
 -- the map
 pub map-rises : (nums : List ℤ) (dens tempos : List ℕ) → allBeats nums dens ≡ true → tempoProblems (listed nums dens tempos) ≡ [] → allSmall (listed nums dens tempos) ≡ true
     → RisingMap (tempoPoints nums dens tempos)
@@ -83,13 +90,11 @@ map-rises (num ∷ nums) (den ∷ dens) (bits ∷ tempos) b e s =
     let at : Beat = record { num = num; den = den } in
     let point : Listed = record { at = at; bits = bits } in
     let many = problemIf (ltb 1024 (length (point ∷ listed nums dens tempos))) 6 0 (length (point ∷ listed nums dens tempos)) in
-    let late = problemIf (belowBeat (wholeBeat (pos 0)) at) 7 0 0 in
-    let early = problemIf (belowBeat at (wholeBeat (pos 0))) 7 0 0 in
+    let late = problemIf (not (isZero at)) 7 0 0 in
     let rest = tempoPointsAfter 1 at (listed nums dens tempos) in
-    let timed = append-eq-nil-iff {p = many} {q = late ++ (early ++ (tempoBits 0 point ++ rest))} .0 e .1 in
-    let ends = append-eq-nil-iff {p = early} {q = tempoBits 0 point ++ rest} .0 (append-eq-nil-iff {p = late} {q = early ++ (tempoBits 0 point ++ rest)} .0 timed .1) in
-    let below = none-when (belowBeat at (wholeBeat (pos 0))) 7 0 0 (ends .0) in
-    let left = append-eq-nil-iff {p = tempoBits 0 point} {q = rest} .0 (ends .1) in
+    let timed = append-eq-nil-iff {p = late} {q = tempoBits 0 point ++ rest} .0 (append-eq-nil-iff {p = many} {q = late ++ (tempoBits 0 point ++ rest)} .0 e .1) in
+    let below = zero-at num den (not-false (isZero at) (none-when (not (isZero at)) 7 0 0 (timed .0))) in
+    let left = append-eq-nil-iff {p = tempoBits 0 point} {q = rest} .0 (timed .1) in
     let q = placed-zero exactly at (beat-above at (and-left (isBeat at) (allBeats nums dens) b)) (and-left (smallBeat exactly at) (allSmall (listed nums dens tempos)) s) below in (
       follows float0 0 num den bits q
           (subst (λ (x : Float). T (le x (beatFloat num den))) beat-zero

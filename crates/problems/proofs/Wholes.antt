@@ -14,8 +14,8 @@ use Rattle.beats.specs.Beats.{wholeBeat}
 use Rattle.beats.specs.Sums.{belowBeat}
 use Rattle.meter.specs.declared.MeterPoint.{MeterPoint}
 use Rattle.meter.specs.Fits.{goodDen}
-use Rattle.problems.specs.Problems.{Problem, Listed, problemIf, meterPoint, meterPoints, meterProblems, soundTempo, tempoBits, tempoPointsAfter, tempoProblems}
-use Rattle.problems.specs.Passes.{tempoStart, tempoFirst, tempoLater, tempoAt, tempoFrom, meterHead, meterAt, meterFrom}
+use Rattle.problems.specs.Problems.{Problem, Listed, problemIf, meterPoint, meterPoints, meterProblems, soundTempo, tempoBits, tempoPointsAfter, isZero, tempoProblems}
+use Rattle.problems.specs.Passes.{tempoFirst, tempoLater, tempoAt, tempoFrom, meterHead, meterAt, meterFrom}
 use Rattle.problems.proofs.Points.{head-later, tempo-later}
 
 -- ---- a tempo map
@@ -29,7 +29,7 @@ tempo-after n index before (point ∷ rest) =
     ∙ ap (λ (l : List Problem). tempoBits (suc index) point ++ (problemIf (not (belowBeat before (point .at))) 9 (suc index) 0 ++ l)) (tempo-after n (suc index) (point .at) rest)
 
 pub tempo-whole : (before : Beat) (points : List Listed) → tempoFrom (length points) 0 before points ≡ tempoProblems points
-unfolding tempoFrom tempoAt tempoFirst tempoStart tempoProblems
+unfolding tempoFrom tempoAt tempoFirst tempoProblems
 tempo-whole before [] = refl
 tempo-whole before (point ∷ rest) = simp (append-assoc, tempo-after (length (point ∷ rest)) 0 (point .at) rest)
 
@@ -57,17 +57,12 @@ tempo-bits-few : (index : ℕ) (point : Listed) → length (tempoBits index poin
 unfolding tempoBits
 tempo-bits-few index point = when-few (not (soundTempo (ofBits binary32 (point .bits)))) 8 index (point .bits)
 
-tempo-start-few : (at : Beat) → length (tempoStart at) ≤ 2
-unfolding tempoStart
-tempo-start-few at =
-    omega (arith, length-append (problemIf (belowBeat (wholeBeat (pos 0)) at) 7 0 0) (problemIf (belowBeat at (wholeBeat (pos 0))) 7 0 0), when-few (belowBeat (wholeBeat (pos 0)) at) 7 0 0, when-few (belowBeat at (wholeBeat (pos 0))) 7 0 0)
-
 tempo-at-few : (n index : ℕ) (before : Beat) (point : Listed) → length (tempoAt n index before point) ≤ 5
 unfolding tempoAt tempoFirst tempoLater
 tempo-at-few n index before point = by-place (eqb index 0)
   where
     by-place : (first : Bool) → length (cond first (tempoFirst n point) (tempoLater index before point)) ≤ 5
-    by-place true = omega (arith, length-append (problemIf (ltb 1024 n) 6 0 n) (tempoStart (point .at) ++ tempoBits 0 point), length-append (tempoStart (point .at)) (tempoBits 0 point), when-few (ltb 1024 n) 6 0 n, tempo-start-few (point .at), tempo-bits-few 0 point)
+    by-place true = omega (arith, length-append (problemIf (ltb 1024 n) 6 0 n) (problemIf (not (isZero (point .at))) 7 0 0 ++ tempoBits 0 point), length-append (problemIf (not (isZero (point .at))) 7 0 0) (tempoBits 0 point), when-few (ltb 1024 n) 6 0 n, when-few (not (isZero (point .at))) 7 0 0, tempo-bits-few 0 point)
     by-place false = omega (arith, length-append (tempoBits index point) (problemIf (not (belowBeat before (point .at))) 9 index 0), tempo-bits-few index point, when-few (not (belowBeat before (point .at))) 9 index 0)
 
 tempo-from-few : (n index : ℕ) (before : Beat) (points : List Listed) → length (tempoFrom n index before points) ≤ 5 * length points

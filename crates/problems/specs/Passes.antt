@@ -1,4 +1,4 @@
--- A pass over a map, which counts its records or writes them too, and the walk that passes over the points of a meter map twice.
+-- What the functions below the calls do, for their contracts alone: a pass over a map, which counts its records or writes them too, and the walk that passes over the points of a meter map twice. The calls promise the problems of `Problems`; that the passes give these is proved (proofs/Wholes).
 use mathlib.Core.Bool.{Bool, true, false, not, cond, _&&_}
 use mathlib.Core.Path.{_≡_}
 use mathlib.Core.List.{List, [], _∷_, _++_}
@@ -9,11 +9,10 @@ use lib.ListN.{length, getD}
 use lib.Seq.{sets}
 use Rattle.numbers.specs.Answers.{Answer, accepted, refused}
 use Rattle.beats.specs.declared.Beat.{Beat}
-use Rattle.beats.specs.Beats.{wholeBeat}
 use Rattle.beats.specs.Sums.{belowBeat}
 use Rattle.meter.specs.declared.MeterPoint.{MeterPoint}
 use Rattle.problems.specs.declared.walk.State.{State}
-use Rattle.problems.specs.Problems.{Problem, Listed, problemIf, flat, meterPoint, tempoBits}
+use Rattle.problems.specs.Problems.{Problem, Listed, problemIf, flat, meterPoint, tempoBits, isZero}
 
 -- ---- a part of a pass, from a count of records on
 
@@ -39,13 +38,9 @@ listedAt at bits = record { at = at; bits = bits }
 abbrev pub beatAt : List ℤ → List ℕ → ℕ → Beat
 beatAt nums dens i = record { num = getD nums i (pos 0); den = getD dens i 0 }
 
--- the record of a first beat that is not 0
-unfoldable pub tempoStart : Beat → List Problem
-tempoStart at = problemIf (belowBeat (wholeBeat (pos 0)) at) 7 0 0 ++ problemIf (belowBeat at (wholeBeat (pos 0))) 7 0 0
-
 -- the records of the first point, with those of the map
 unfoldable pub tempoFirst : ℕ → Listed → List Problem
-tempoFirst n point = problemIf (ltb 1024 n) 6 0 n ++ (tempoStart (point .at) ++ tempoBits 0 point)
+tempoFirst n point = problemIf (ltb 1024 n) 6 0 n ++ (problemIf (not (isZero (point .at))) 7 0 0 ++ tempoBits 0 point)
 
 -- the records of a point after a point at the beat `before`
 unfoldable pub tempoLater : ℕ → Beat → Listed → List Problem

@@ -3,12 +3,11 @@ use mathlib.Core.Bool.{Bool, false, not, cond, _&&_}
 use mathlib.Core.List.{List, [], _∷_, _++_}
 use Prim.Native.Nat.{ℕ, suc, _*_, _/_}
 use lib.Dec.{leb, ltb, eqb}
-use lib.IntN.{ℤ, pos}
+use lib.IntN.{ℤ, natAbs}
 use lib.Ieee.{Float, inf, lt, binary32, ofBits}
 use lib.ListN.{length, drop}
 use Rattle.rounding.specs.Floats.{float0}
 use Rattle.beats.specs.declared.Beat.{Beat}
-use Rattle.beats.specs.Beats.{wholeBeat}
 use Rattle.beats.specs.Sums.{belowBeat}
 use Rattle.meter.specs.declared.MeterPoint.{MeterPoint}
 use Rattle.meter.specs.Fits.{goodDen}
@@ -76,14 +75,17 @@ tempoPointsAfter index before (point ∷ rest) =
     ++ (problemIf (not (belowBeat before (point .at))) 9 index 0
     ++ tempoPointsAfter (suc index) (point .at) rest)
 
+-- a beat is 0 where its numerator is
+abbrev pub isZero : Beat → Bool
+isZero beat = eqb (natAbs (beat .num)) 0
+
 -- 6 over 1,024 points (with their count), 7 the first beat is not 0, then each point's
 unfoldable pub tempoProblems : List Listed → List Problem
 tempoProblems [] = []
 tempoProblems (first ∷ rest) =
     problemIf (ltb 1024 (length (first ∷ rest))) 6 0 (length (first ∷ rest))
-    ++ (problemIf (belowBeat (wholeBeat (pos 0)) (first .at)) 7 0 0
-    ++ (problemIf (belowBeat (first .at) (wholeBeat (pos 0))) 7 0 0
-    ++ (tempoBits 0 first ++ tempoPointsAfter 1 (first .at) rest)))
+    ++ (problemIf (not (isZero (first .at))) 7 0 0
+    ++ (tempoBits 0 first ++ tempoPointsAfter 1 (first .at) rest))
 
 -- ---- the lent words
 

@@ -8,10 +8,10 @@ ghost use Prim.Native.Nat.{_<_};
 ghost use lib.Ieee.{binary32, ofBits};
 ghost use lib.ListN.{length};
 ghost use Rattle.tempo.specs.Answers.{SoundMap};
-ghost use Rattle.problems.specs.Problems.{soundTempo, tempoBits, listed, tempoProblems, written};
+ghost use Rattle.problems.specs.Problems.{soundTempo, tempoBits, isZero, listed, tempoProblems, written};
 ghost use Rattle.problems.specs.Answers.{counted};
 ghost use Rattle.problems.specs.Readings.{readProblems};
-ghost use Rattle.problems.specs.Passes.{Ready, Passed, listedAt, beatAt, tempoStart, tempoFirst, tempoLater, tempoAt};
+ghost use Rattle.problems.specs.Passes.{Ready, Passed, listedAt, beatAt, tempoFirst, tempoLater, tempoAt};
 
 // Whether the bits are those of a tempo that is finite and above 0.
 fn sound_tempo(bits: u32) -> bool
@@ -30,15 +30,11 @@ fn own(out: &mut [u32], writing: bool, count: u32, index: u32, at: Beat, bits: u
     records::note(out, writing, count, bad, 8, index, bits)
 }
 
-// The record of a first beat that is not 0.
-fn start(out: &mut [u32], writing: bool, count: u32, at: Beat) -> u32
-    requires { ⌜ Ready writing (now out) count (tempoStart at) ⌝ }
-    ensures { λ r. ⌜ Passed writing (now (out .entry)) count (tempoStart at) (now (out .exit)) r ⌝ }
+// Whether a beat is 0.
+fn is_zero(at: Beat) -> bool
+    ensures { λ r. ⌜ r ≡ isZero at ⌝ }
 {
-    let above = sums::below(Beat::zero(), at);
-    let a = records::note(out, writing, count, above, 7, 0, 0);
-    let below = sums::below(at, Beat::zero());
-    records::note(out, writing, a, below, 7, 0, 0)
+    numbers::magnitude(at.num) == 0
 }
 
 // The records of the map and of its first point.
@@ -47,7 +43,8 @@ fn first(out: &mut [u32], writing: bool, count: u32, n: u32, at: Beat, bits: u32
     ensures { λ r. ⌜ Passed writing (now (out .entry)) count (tempoFirst n (listedAt at bits)) (now (out .exit)) r ⌝ }
 {
     let a = records::note(out, writing, count, 1024 < n, 6, 0, n);
-    let b = start(out, writing, a, at);
+    let bad = !is_zero(at);
+    let b = records::note(out, writing, a, bad, 7, 0, 0);
     own(out, writing, b, 0, at, bits)
 }
 

@@ -1,42 +1,44 @@
 -- The record of the map, the one of its first beat and the one of its first tempo are passed one behind another.
+use mathlib.Core.Bool.{not}
+use mathlib.Core.List.{List, _++_}
 use borrow.Author.Needs.{needs}
-use mathlib.Core.List.{_++_}
 use lib.Dec.{ltb}
-use Rattle.problems.specs.Problems.{problemIf, tempoBits}
-use Rattle.problems.specs.Passes.{listedAt, tempoStart, tempoFirst}
+use Rattle.problems.specs.Problems.{Problem, problemIf, tempoBits, isZero}
+use Rattle.problems.specs.Passes.{listedAt, tempoFirst}
 use Rattle.problems.proofs.Passing.{ready-first, ready-then, passed-then}
 use Rattle.problems.proofs.changes.first.Statement.{statement}
 use Rattle.problems.proofs.changes.first.Tie as tie
 
+abbrev many : tie.Start → List Problem
+many s = problemIf (ltb 1024 (s .args .n)) 6 0 (s .args .n)
+
+abbrev late : tie.Start → List Problem
+late s = problemIf (not (isZero (s .args .at))) 7 0 0
+
+abbrev bits : tie.Start → List Problem
+bits s = tempoBits 0 (listedAt (s .args .at) (s .args .bits))
+
 note-requires : tie.Need-note-requires
 unfolding tempoFirst
-note-requires c κs =
-    let s = c .before .before in
-    let a = s .args in
-    let x = problemIf (ltb 1024 (a .n)) 6 0 (a .n) in
-    let y = tempoStart (a .at) in
-    let z = tempoBits 0 (listedAt (a .at) (a .bits)) in
-    ready-first x (y ++ z) (s .pre)
+note-requires c κs = let s = c .before .before in ready-first (many s) (late s ++ bits s) (s .pre)
 
-start-requires : tie.Need-start-requires
+is-zero-requires : tie.Need-is-zero-requires
+is-zero-requires c κs = search needs
+
+note-requires-2 : tie.Need-note-requires-2
 unfolding tempoFirst
-start-requires c κs =
-    let s = c .before .before .before .before .before .before in
-    let a = s .args in
-    let x = problemIf (ltb 1024 (a .n)) 6 0 (a .n) in
-    let y = tempoStart (a .at) in
-    let z = tempoBits 0 (listedAt (a .at) (a .bits)) in
-    ready-first y z (ready-then x (y ++ z) (s .pre) (c .before .before .before .note .ensures))
+note-requires-2 c κs =
+    let noted = c .before .before .before .before in
+    let s = noted .before .before .before in
+    rw (c .before .is-zero .ensures) (ready-first (late s) (bits s) (ready-then (many s) (late s ++ bits s) (s .pre) (noted .note .ensures)))
 
 own-requires : tie.Need-own-requires
 unfolding tempoFirst
 own-requires c κs =
-    let s = c .before .before .before .before .before .before .before .before .before .before in
-    let a = s .args in
-    let x = problemIf (ltb 1024 (a .n)) 6 0 (a .n) in
-    let y = tempoStart (a .at) in
-    let z = tempoBits 0 (listedAt (a .at) (a .bits)) in
-    ready-then y z (ready-then x (y ++ z) (s .pre) (c .before .before .before .before .before .before .before .note .ensures)) (c .before .before .before .start .ensures)
+    let again = c .before .before .before in
+    let noted = again .before .before .before .before .before in
+    let s = noted .before .before .before in
+    ready-then (late s) (bits s) (ready-then (many s) (late s ++ bits s) (s .pre) (noted .note .ensures)) (rw (again .before .before .is-zero .ensures) at (again .note2 .ensures))
 
 same-length : tie.Need-same-length
 same-length c = search needs
@@ -44,12 +46,12 @@ same-length c = search needs
 returns : tie.Need-returns
 unfolding tempoFirst
 returns c =
-    let s = c .before .before .before .before .before .before .before .before .before .before .before .before .before in
-    let a = s .args in
-    let x = problemIf (ltb 1024 (a .n)) 6 0 (a .n) in
-    let y = tempoStart (a .at) in
-    let z = tempoBits 0 (listedAt (a .at) (a .bits)) in
-    passed-then x (y ++ z) (c .before .before .before .before .before .before .before .before .before .before .note .ensures) (passed-then y z (c .before .before .before .before .before .before .start .ensures) (c .before .before .own .ensures))
+    let called = c .before .before in
+    let again = called .before .before .before .before in
+    let noted = again .before .before .before .before .before in
+    let s = noted .before .before .before in
+    passed-then (many s) (late s ++ bits s) (noted .note .ensures)
+    (passed-then (late s) (bits s) (rw (again .before .before .is-zero .ensures) at (again .note2 .ensures)) (called .own .ensures))
 
 pub first-spec : {M : Type 1} → statement M
-first-spec = tie.close (tie.spec note-requires start-requires own-requires same-length returns)
+first-spec = tie.close (tie.spec note-requires is-zero-requires note-requires-2 own-requires same-length returns)
