@@ -43,9 +43,11 @@ returns c =
     let f = c .before in
     let r = f .before .before in
     let l = r .before .before .loop in
-    let s = r .before .before .before .before .before in
-    (refl, stopped-here (now (s .args .nums)) (now (s .args .dens)) (now (s .args .tempos)) (s .pre .0) (s .args .beat) (l .secs) (l .from) (l .tempo) (l .i) (l .inv)
-    (r .before .loop-test .taken) _ (toZ-ofZ w64 (getD (now (s .args .nums)) (l .i) (pos 0)) (record { sfits = r .t14 .given })) _ (f .float-of .ensures) (c .if1 .taken))
+    let s = r .before .before .before .before .before in (
+      refl,
+      stopped-here (now (s .args .nums)) (now (s .args .dens)) (now (s .args .tempos)) (s .pre .0) (s .args .beat) (l .secs) (l .from) (l .tempo) (l .i) (l .inv)
+          (r .before .loop-test .taken) _ (toZ-ofZ w64 (getD (now (s .args .nums)) (l .i) (pos 0)) (record { sfits = r .t14 .given })) _ (f .float-of .ensures) (c .if1 .taken),
+    )
 
 later-requires : tie.Need-later-requires Inv-loop μ-loop
 later-requires c κs = search needs
