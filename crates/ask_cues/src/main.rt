@@ -153,8 +153,7 @@ fn ask_fill(q: &[u32], space: &mut [i64], lent: &mut [u64], out: &mut [u8; HELD]
     end_lent(out, to, lent);
 }
 
-// 52: u64 start, u64 end, U64s lines. No local may hold a struct with a reference in it, so this is
-// the body of `lines::lines_between`, and not a call of it.
+// 52: u64 start, u64 end, U64s lines.
 fn ask_range(q: &[u32], space: &mut [u64], out: &mut [u8; HELD], to: &mut usize) {
     if asking::past_longs(q, 4) != q.len() {
         asking::unknown(out, to);
@@ -163,8 +162,8 @@ fn ask_range(q: &[u32], space: &mut [u64], out: &mut [u8; HELD], to: &mut usize)
     let start = asking::u64_at(q, 0);
     let end = asking::u64_at(q, 2);
     let lines = numbers_at(q, 4, space);
-    let report = lines::check_lines(lines);
-    let part = lines::range::tested_part(lines, report, start, end);
+    let report = between::report_of(lines, start, end);
+    let part = between::part_of(lines, start, end);
     match report {
         LinesReport::Fine => range_line(out, to, part),
         LinesReport::TooLong => asking::refused(out, to, TOO_LONG),
