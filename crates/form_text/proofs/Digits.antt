@@ -4,16 +4,17 @@ use mathlib.Core.Bool.{Bool, true, false, cond}
 use mathlib.Core.List.{List, [], _∷_, _++_, append-nil, append-assoc}
 use Prim.Native.Nat.{ℕ, zero, suc, _+_, _-_, _/_, _%_, _^_, _≤_, _<_}
 use native.Mathlib.Omega.{arith}
-use borrow.Author.Tests.{lt-ltb, le-ltb, ltb-true, eq-eqb, ne-eqb}
+use borrow.Author.Tests.{lt-ltb, le-ltb, ltb-true, eq-eqb, ne-eqb, eqb-true}
 use lib.Dec.{ltb, eqb}
 use lib.IntN.{pos}
 use lib.Ieee.{Float, binary32, binary64, ofBits, toBits, div, mul, ofInt, toUnsigned}
 use lib.ListN.{length, length-append}
-use Rattle.numbers.proofs.Laws.{and-left}
+use Rattle.numbers.proofs.Laws.{and-left, and-right}
 use Rattle.rounding.specs.Floats.{roundAway}
 use Rattle.text.specs.Texts.{Puts, decimal}
 use Rattle.text.proofs.Laws.{nothing, retext}
-use Rattle.form_text.specs.TempoTexts.{bitsOfDecimal, digitsFor, readsBack, placesFrom, digitByte, lastDigits, pointText, bitsText, tempoText}
+use Rattle.spelling.specs.Words.{quotient}
+use Rattle.form_text.specs.TempoTexts.{digitsFor, readsBack, placesFrom, digitByte, lastDigits, pointText, bitsText, tempoText}
 
 pub power : (n k : ℕ) → n ≡ k → 10 ^ k ≡ 10 ^ n
 power n k e = ap (λ (j : ℕ). 10 ^ j) (sym e)
@@ -34,18 +35,23 @@ module _ (bits places : ℕ) {digits : ℕ} (e : digits ≡ digitsFor bits place
 
   pub is-back : digits < 16777216 → {word scale : ℕ} {over under : Float} → over ≡ ofInt binary32 (pos digits) → scale ≡ 10 ^ places → under ≡ ofInt binary32 (pos scale)
       → word ≡ toBits binary32 (div binary32 over under) → eqb word bits ≡ readsBack bits places
-  unfolding readsBack bitsOfDecimal
+  unfolding readsBack
   is-back h {word} {scale} {over} {under} o s u w =
-      let quotient : Float → Float → ℕ = λ x y. toBits binary32 (div binary32 x y) in
+      let word-of : Float → Float → ℕ = λ x y. toBits binary32 (div binary32 x y) in
       let x = o ∙ ap (λ (k : ℕ). ofInt binary32 (pos k)) e in
       let y = u ∙ ap (λ (k : ℕ). ofInt binary32 (pos k)) s in
-      let all = w ∙ ap (λ (z : Float). quotient z under) x ∙ ap (quotient (ofInt binary32 (pos (digitsFor bits places)))) y in
+      let all = w ∙ ap (λ (z : Float). word-of z under) x ∙ ap (word-of (ofInt binary32 (pos (digitsFor bits places)))) y in
       simp (lt-ltb (digitsFor bits places) 16777216 (omega arith)) (ap (λ (k : ℕ). eqb k bits) all)
 
-back-small : (bits places : ℕ) → readsBack bits places ≡ true → digitsFor bits places < 16777216
-unfolding readsBack
-back-small bits places e =
-    ltb-true (digitsFor bits places) 16777216 (and-left (ltb (digitsFor bits places) 16777216) (eqb (bitsOfDecimal (digitsFor bits places) places) bits) e)
+module _ (bits places : ℕ) (e : readsBack bits places ≡ true) where
+  pub back-small : digitsFor bits places < 16777216
+  unfolding readsBack
+  back-small = ltb-true (digitsFor bits places) 16777216 (and-left (ltb (digitsFor bits places) 16777216) (eqb (quotient (digitsFor bits places) places) bits) e)
+
+  pub back-same : quotient (digitsFor bits places) places ≡ bits
+  unfolding readsBack
+  back-same =
+      eqb-true (quotient (digitsFor bits places) places) bits (and-right (ltb (digitsFor bits places) 16777216) (eqb (quotient (digitsFor bits places) places) bits) e)
 
 module _ (bits : ℕ) where
   pub place-found : (p left : ℕ) → 0 < left → readsBack bits p ≡ true → placesFrom bits p left ≡ p
@@ -63,7 +69,7 @@ module _ (bits : ℕ) where
   place-none p left e = ap (placesFrom bits p) e
 
   -- a place that is not behind the last reads back
-  back-at : (p left : ℕ) → placesFrom bits p left < p + left → readsBack bits (placesFrom bits p left) ≡ true
+  pub back-at : (p left : ℕ) → placesFrom bits p left < p + left → readsBack bits (placesFrom bits p left) ≡ true
   unfolding placesFrom
   back-at p zero h = let z : ⊥ = omega arith in absurd z
   back-at p (suc left) h = go (readsBack bits p) refl (λ k. back-at (p + 1) left k) h

@@ -4,23 +4,20 @@ use mathlib.Core.List.{List, [], _∷_, _++_}
 use Prim.Native.Nat.{ℕ, zero, suc, _+_, _/_, _%_, _^_}
 use lib.Dec.{ltb, eqb}
 use lib.IntN.{pos}
-use lib.Ieee.{binary32, binary64, ofBits, toBits, div, mul, ofInt, toUnsigned}
+use lib.Ieee.{binary32, binary64, ofBits, mul, ofInt, toUnsigned}
 use Rattle.rounding.specs.Floats.{roundAway}
 use Rattle.text.specs.Texts.{decimal}
+use Rattle.spelling.specs.Words.{quotient}
 
 -- ---- which decimal
-
--- the bits that digits read back as, so many of them behind the point: digits / 10 ^ places, one binary32 division of two exact floats
-unfoldable pub bitsOfDecimal : ℕ → ℕ → ℕ
-bitsOfDecimal digits places = toBits binary32 (div binary32 (ofInt binary32 (pos digits)) (ofInt binary32 (pos (10 ^ places))))
 
 -- the digits to try with so many places: the tempo times 10 ^ places, in binary64, to the nearest whole number. (A NaN and numbers below 0 give 0.)
 unfoldable pub digitsFor : ℕ → ℕ → ℕ
 digitsFor bits places = toUnsigned 64 (roundAway (mul binary64 (ofBits binary32 bits) (ofInt binary64 (pos (10 ^ places)))))
 
--- they are below 2 ^ 24, and read back as the same bits
+-- they are below 2 ^ 24, and with a point before so many of them they are read as the same bits
 unfoldable pub readsBack : ℕ → ℕ → Bool
-readsBack bits places = ltb (digitsFor bits places) 16777216 && eqb (bitsOfDecimal (digitsFor bits places) places) bits
+readsBack bits places = ltb (digitsFor bits places) 16777216 && eqb (quotient (digitsFor bits places) places) bits
 
 -- the first number of places that reads back, from `places` on; where none of the `left` does, the number behind them
 unfoldable pub placesFrom : ℕ → ℕ → ℕ → ℕ

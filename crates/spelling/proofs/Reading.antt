@@ -120,6 +120,14 @@ most base limit front word n e = go (allDigits base word) (leb (valueFrom base f
     go true false s q = let z : _≡_ {A = ℕ} 0 1 = cc in omega arith
     go false small s q = let z : _≡_ {A = ℕ} 0 1 = cc in omega arith
 
+pub all-digits : (base limit front : ℕ) (word : List ℕ) (n : ℕ) → numberBy base limit front word ≡ Number n → allDigits base word ≡ true
+unfolding numberBy
+all-digits base limit front word n e = go (allDigits base word) (leb (valueFrom base front word) limit) e
+  where
+    go : (all small : Bool) → cond (all && small) (Number (valueFrom base front word)) NotDigits ≡ Number n → all ≡ true
+    go true small q = refl
+    go false small q = cc
+
 module _ (limit : ℕ) (word : List ℕ) where
   pub no-word : length word ≡ 0 → NotDigits ≡ someDigits limit word
   unfolding someDigits
@@ -143,7 +151,7 @@ unfoldable pub carried : ℕ → ℕ → Digits → List ℕ → Digits
 carried base limit (Number n) word = numberBy base limit n word
 carried base limit NotDigits word = NotDigits
 
-all-append : (base : ℕ) (front back : List ℕ) → allDigits base (front ++ back) ≡ allDigits base front && allDigits base back
+pub all-append : (base : ℕ) (front back : List ℕ) → allDigits base (front ++ back) ≡ allDigits base front && allDigits base back
 unfolding allDigits
 all-append base [] back = refl
 all-append base (byte ∷ front) back = go (ltb (digitOf byte) base) (all-append base front back)
