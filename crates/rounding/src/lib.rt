@@ -107,7 +107,8 @@ pub fn floor(x: f64) -> f64
     }
 }
 
-// Picks: a NaN goes as document 01 says, whichever side it stands on.
+// Picks, by the comparisons of IEEE 754: a NaN goes as document 01 says, whichever side it stands
+// on.
 
 // `x.max(y)`: a NaN gives the other side.
 pub fn max_f64(x: f64, y: f64) -> f64
