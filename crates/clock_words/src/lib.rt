@@ -1,5 +1,6 @@
 // A clock's words: a transport as eleven words of 64 bits, for firmware that keeps one in its own
-// memory. They are read whole, and of what an advance changes only position and state are written.
+// memory. They are read whole. An advance changes position and state alone, and these alone are
+// written.
 use beats::Beat;
 use meter::Pickup;
 use transport::LoopRange;

@@ -1,7 +1,7 @@
 -- What crates above may use of the transport. They go by these laws and unfold neither `sound` nor `advanced`.
 
 -- what a good loop is, and where it folds a frame to
-pub use Rattle.transport.proofs.Loops.{loop-starts, loop-ends, on-sound, fold-starts, fold-lt, fold-within, fold-more}
+pub use Rattle.transport.proofs.Loops.{loop-starts, loop-ends, on-sound, fold-lt, fold-within, fold-more}
 -- what a sound transport is
 pub use Rattle.transport.proofs.Loops.{sound-position, sound-loop, sound-pickup}
 pub use Rattle.transport.proofs.Sound.{sound-by}

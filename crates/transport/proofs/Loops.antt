@@ -29,10 +29,7 @@ on-sound length looping start end on is = let good : goodLoop length start end �
 -- ---- folding
 
 module _ (start end frame : ℕ) (h : start < end) where
-  -- a folded frame is in the loop
-  pub fold-starts : start ≤ fold start end frame
-  fold-starts = omega arith
-
+  -- a folded frame is before the loop's end
   pub fold-lt : fold start end frame < end
   fold-lt = let m : (frame - start) % (end - start) < end - start = mod-lt (frame - start) (omega arith) in omega arith
 
