@@ -9,18 +9,18 @@ use borrow.Author.Tests.{le-leb, ltb-false}
 use lib.Dec.{T, leb, lit<, lit≤}
 use lib.IntN.{ℤ, pos, negsuc, natAbs, _*ℤ_}
 use lib.Signed.{ltZ, leZ}
-use lib.Ieee.{Float, inf, le}
+use lib.Ieee.{Float, le}
 use lib.Ieee.Scale.{finite}
 use lib.ListN.{length}
 use Rattle.numbers.specs.Answers.{Answer, accepted}
 use Rattle.numbers.specs.Signs.{inI64}
 use Rattle.numbers.proofs.Laws.{by-order, both, and-right}
-use Rattle.rounding.specs.Floats.{float0, float1}
-use Rattle.rounding.proofs.Laws.{max-positive, Up, up→le}
+use Rattle.rounding.specs.Floats.{float0}
+use Rattle.rounding.proofs.Laws.{Up, up→le}
 use Rattle.beats.specs.declared.Beat.{Beat}
 use Rattle.beats.specs.Beats.{isBeat}
 use Rattle.beats.specs.Sums.{belowBeat}
-use Rattle.beats.specs.Frames.{beatFloat}
+use Rattle.beats.specs.Frames.{beatFloat, framesAt}
 use Rattle.beats.proofs.Laws.{beat-above}
 use Rattle.meter.specs.Meters.{pointsOf}
 use Rattle.meter.specs.Starts.{zeroBeat, startOf, exactStart}
@@ -30,28 +30,29 @@ use Rattle.tempo.specs.Answers.{mapTest}
 use Rattle.tempo.specs.Tempos.{TempoPoint, tempoPoints}
 use Rattle.tempo.specs.Rising.{RisingMap}
 use Rattle.tempo.proofs.Laws as tempo
-use Rattle.tempo.proofs.Laws.{seconds-up, seconds-at-up}
+use Rattle.tempo.proofs.Laws.{seconds-at-up}
 use Rattle.transport.specs.declared.Transport.{Transport}
-use Rattle.timeline.specs.Places.{ownTempo, floatOf, secondsOf, frameAtBar}
+use Rattle.timeline.specs.Places.{floatOf, secondsOf, frameAtBar}
 use Rattle.timeline.proofs.Laws.{bar-frame}
 use Rattle.lines.specs.Lines.{ascendsFrom, ascends, linesAnswer}
 use Rattle.filler.specs.Fills.{entries, barLines, newOr}
 use Rattle.filler.specs.Promise.{InOrder, LinesPromise}
 use Rattle.filler.proofs.Filling.{entries-length}
 use Rattle.filler.proofs.Testing.{accepted-known}
-use Rattle.filler.proofs.Ordering.{Placed, smallBeat, placed-zero, beat-zero, frames-up}
+use Rattle.filler.proofs.Ordering.{Placed, smallBeat, placed-zero, beat-zero, frames-up, own-up}
 use Rattle.filler.proofs.Wide.{Dyadic, wide-finite, wide-zero, dyadic-up}
 use Rattle.filler.proofs.Sixteenths.{starts-dyadic}
 use Rattle.filler.proofs.Rising.{map-rises}
 
--- ---- seconds
+-- ---- frames
 
 -- through the map, or at the own tempo
-seconds-of-up : (bpm : Float) (points : List TempoPoint) → (bpm ≡ inf false → ⊥) → RisingMap points → (a b : Float) → T (finite a) → T (finite b) → T (le float0 a) → Up a b
-    → Up (secondsOf bpm points a) (secondsOf bpm points b)
+frame-up : (bpm : Float) (points : List TempoPoint) (rate : ℕ) → RisingMap points → (a b : Float) → T (finite a) → T (finite b) → T (le float0 a) → Up a b
+    → framesAt (secondsOf bpm points a) rate ≤ framesAt (secondsOf bpm points b) rate
 unfolding secondsOf
-seconds-of-up bpm [] f r a b A B h u = seconds-up a b (ownTempo bpm) (max-positive bpm float1 tt f) u
-seconds-of-up bpm (first ∷ rest) f r a b A B h u = seconds-at-up (first ∷ rest) r a b A B h (up→le a b u)
+frame-up bpm [] rate r a b A B h u = own-up bpm a b rate u
+frame-up bpm (first ∷ rest) rate r a b A B h u =
+    frames-up (secondsOf bpm (first ∷ rest) a) (secondsOf bpm (first ∷ rest) b) rate (seconds-at-up (first ∷ rest) r a b A B h (up→le a b u))
 
 -- ---- lines
 
@@ -145,9 +146,8 @@ module _ (t : Transport) (words : List ℕ) (nums : List ℤ) (dens tempos : Lis
       let a = floatOf (start i) in
       let b = floatOf (start j) in
       rw (bar-frame t (pointsOf words) points i, bar-frame t (pointsOf words) points j)
-      (frames-up (secondsOf (t .bpm) points a) (secondsOf (t .bpm) points b) (t .«sample_rate»)
-      (seconds-of-up (t .bpm) points (o .finite) (map-rises nums dens tempos (tempo.sound nums dens tempos m .beats) (o .sound) (o .small)) a b
-      (start-finite i (omega arith)) (start-finite j l) (from-zero i (omega arith)) (start-up i j h l)))
+      (frame-up (t .bpm) points (t .«sample_rate») (map-rises nums dens tempos (tempo.sound nums dens tempos m .beats) (o .sound) (o .small)) a b
+      (start-finite i (omega arith)) (start-finite j l) (from-zero i (omega arith)) (start-up i j h l))
 
 -- ---- a list of entries that do not fall
 

@@ -8,18 +8,20 @@ use lib.IntN.{ℤ, pos, negsuc, _*ℤ_}
 use lib.Signed.{ltZ, leZ}
 use lib.Dec.{T, leb, ltb, ltb→lt, lt→ltb, lit<, lit≤}
 use borrow.Author.Tests.{ltb-true, ltb-false, leb-true}
-use lib.Ieee.{Float, nan, inf, fin, binary64, up, down, round, mul, div, ofInt, toUnsigned}
+use lib.Ieee.{Float, nan, inf, fin, binary64, isNan, ofBits, lt, unlike, up, down, round, mul, div, ofInt, toUnsigned}
 use lib.Ieee.Fits.{up-pos, down-pos}
 use lib.Ieee.Exact.{HasValue}
 use lib.Ieee.Back.{round-whole}
 use lib.Ieee.Scale.{round-same, finite}
 use Rattle.numbers.proofs.Laws.{lt-parts, parts-lt, up-times, down-times, and-left, and-right}
-use Rattle.rounding.specs.Floats.{roundAway, float0}
-use Rattle.rounding.proofs.Laws.{quotient-is, round-rises, Up, up→le, not-zero, mul-up, round-own, round-up}
+use Rattle.rounding.specs.Floats.{roundAway, maximum, float0, float1}
+use Rattle.rounding.proofs.Laws.{max-positive, quotient-is, round-rises, Up, up→le, not-zero, mul-up, round-own, round-up}
 use Rattle.beats.specs.declared.Beat.{Beat}
 use Rattle.beats.specs.Beats.{wholeBeat}
 use Rattle.beats.specs.Sums.{belowBeat}
-use Rattle.beats.specs.Frames.{beatFloat, framesAt}
+use Rattle.beats.specs.Frames.{float60, beatFloat, secondsAt, framesAt}
+use Rattle.tempo.proofs.Laws.{seconds-up}
+use Rattle.timeline.specs.Places.{ownTempo}
 
 -- ---- seconds times the rate
 
@@ -74,6 +76,48 @@ by-rate x y (fin false (suc o) g) r h =
 pub frames-up : (x y : Float) (rate : ℕ) → Up x y → framesAt x rate ≤ framesAt y rate
 unfolding ofInt
 frames-up x y rate h = by-rate x y (round binary64 false rate 1) (round-own binary64 rate 1) h
+
+-- ---- at the own tempo
+
+-- no seconds are no frames
+no-time : (s : Bool) (rate : Float) → Up rate rate → framesBy (fin s 0 (pos 0)) rate ≡ 0
+unfolding mul toUnsigned roundAway round
+no-time s nan r = absurd r
+no-time s (inf true) r = absurd r
+no-time s (inf false) r = refl
+no-time s (fin true o g) r = absurd r
+no-time s (fin false o g) r =
+    ap (λ (z : Float). toUnsigned 64 (roundAway z)) (round-same binary64 (unlike s false) (0 * up (pos 0) * (o * up g)) (down (pos 0) * down g) 0 1 (mul-pos (down-pos (pos 0)) (down-pos g)) (lit< tt) (go (o * up g) (down (pos 0) * down g)))
+    ∙ either s
+  where
+    go : (a b : ℕ) → 0 * up (pos 0) * a * 1 ≡ 0 * b
+    go a b = omega arith
+
+    either : (s : Bool) → toUnsigned 64 (roundAway (round binary64 (unlike s false) 0 1)) ≡ 0
+    either true = refl
+    either false = refl
+
+-- at an infinite tempo every beat is at once
+at-once : (x : Float) (rate : ℕ) → framesAt (div binary64 x (inf false)) rate ≡ 0
+unfolding ofInt div mul toUnsigned roundAway
+at-once nan rate = refl
+at-once (inf s) rate = refl
+at-once (fin s m e) rate = no-time (unlike s false) (round binary64 false rate 1) (round-own binary64 rate 1)
+
+pub own-up : (bpm a b : Float) (rate : ℕ) → Up a b → framesAt (secondsAt a (ownTempo bpm)) rate ≤ framesAt (secondsAt b (ownTempo bpm)) rate
+unfolding maximum isNan lt ofBits
+own-up bpm a b rate h = go bpm refl
+  where
+    other : (x : Float) → bpm ≡ x → (Up (inf false) x → ⊥) → framesAt (secondsAt a (ownTempo bpm)) rate ≤ framesAt (secondsAt b (ownTempo bpm)) rate
+    other x e never =
+        frames-up (secondsAt a (ownTempo bpm)) (secondsAt b (ownTempo bpm)) rate
+        (seconds-up a b (ownTempo bpm) (max-positive bpm float1 tt (λ f. never (subst (λ (y : Float). Up (inf false) y) (sym f ∙ e) tt))) h)
+
+    go : (x : Float) → bpm ≡ x → framesAt (secondsAt a (ownTempo bpm)) rate ≤ framesAt (secondsAt b (ownTempo bpm)) rate
+    go nan e = other nan e (λ u. u)
+    go (inf true) e = other (inf true) e (λ u. u)
+    go (inf false) e = rw e (le-of-eq (at-once (mul binary64 a float60) rate ∙ sym (at-once (mul binary64 b float60) rate)))
+    go (fin s m g) e = other (fin s m g) e (λ u. u)
 
 -- ---- beats
 

@@ -1,11 +1,10 @@
--- What is promised of filled lines: for a score that fits, a tempo map without problems whose numerators are at most 2^53, and finite tempos, none is less than the one before.
-use mathlib.Core.Bool.{Bool, true, false, _&&_}
+-- What is promised of filled lines: for a score that fits and a tempo map without problems whose numerators are at most 2^53, none is less than the one before.
+use mathlib.Core.Bool.{Bool, true, _&&_}
 use mathlib.Core.Path.{_≡_}
 use mathlib.Core.List.{List, [], _∷_}
 use Prim.Native.Nat.{ℕ}
 use lib.Dec.{leb}
 use lib.IntN.{ℤ, pos}
-use lib.Ieee.{inf}
 use lib.Signed.{leZ}
 use Rattle.numbers.specs.Answers.{accepted}
 use Rattle.meter.specs.Meters.{pointsOf}
@@ -24,8 +23,6 @@ allSmall (point ∷ rest) = (leZ (point .at .num) (pos 9007199254740992) && leb 
 pub record InOrder (t : Transport) (words : List ℕ) (nums : List ℤ) (dens tempos : List ℕ) : Type 0 where
   pub fits : Fits (pointsOf words) (t .«beats_per_bar») (t .pickup)
   pub sound : tempoProblems (listed nums dens tempos) ≡ []
-  -- the own tempo, which counts where the map has no points. (The map's own are finite, since it has no problems.)
-  pub finite : t .bpm ≡ inf false → ⊥
   pub small : allSmall (listed nums dens tempos) ≡ true
 
 -- the lines of such a score, filled by the call, are refused neither by 11 nor by 4
