@@ -20,7 +20,7 @@ pub use Rattle.beats.proofs.Fitted.{fit, unfit}
 -- the order is total and that of the exact values; equal beats are the same two numbers
 pub use Rattle.beats.proofs.Ordering.{below-is, order-same, order-exchanged, order-equal, below-trans, order-values}
 -- sums and multiples keep it
-pub use Rattle.beats.proofs.Ordering.{sum-order, sum-grows, scale-order}
+pub use Rattle.beats.proofs.Ordering.{sum-order, scale-order}
 -- a beat that is a natural number over d; sums of any size; the order over one denominator
 pub use Rattle.beats.proofs.Fractions.{value-forward, zero-beat, sum-beat, sum-is, sum-has, below-values, below-same, not-below}
 -- a multiple and a sum of beats that are not below 0 are accepted within the limits

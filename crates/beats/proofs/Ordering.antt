@@ -3,17 +3,16 @@ use mathlib.Core.Path.{_≡_, sym, ap, _∙_, subst}
 use mathlib.Core.Bool.{Bool, true}
 use Prim.Native.Nat.{ℕ, _*_, _<_}
 use native.Mathlib.Nat.{mul-pos, mul-comm, mul-assoc, mul-left-comm}
-use native.Mathlib.Omega.{arith}
-use lib.IntN.{ℤ, pos, negℤ, _+ℤ_, _-ℤ_, _*ℤ_, +ℤ-idl, zero-*ℤ}
+use lib.IntN.{ℤ, pos, _+ℤ_, _-ℤ_, _*ℤ_}
 use lib.Signed.{ltZ}
 use lib.Ieee.Bits.{is-true}
 use Rattle.numbers.specs.declared.exact.Order.{Order}
 use Rattle.numbers.specs.declared.exact.Order.the-variants.{Equal}
 use Rattle.numbers.specs.Answers.{accepted}
 use Rattle.numbers.specs.Exacts.{orderOf}
-use Rattle.numbers.proofs.Laws.{holds, gap-times, lt-trans, sums-apart, grown, isLess, less-is, equal-only, same-equal, turned, exchanged, order-times}
+use Rattle.numbers.proofs.Laws.{holds, gap-times, lt-trans, sums-apart, isLess, less-is, equal-only, same-equal, turned, exchanged, order-times}
 use Rattle.beats.specs.declared.Beat.{Beat}
-use Rattle.beats.specs.Beats.{isBeat, wholeBeat}
+use Rattle.beats.specs.Beats.{isBeat}
 use Rattle.beats.specs.Sums.{addBeats, mulBeat, orderOfBeats, belowBeat}
 use Rattle.beats.specs.Values.{Worth}
 use Rattle.beats.proofs.Lowest.{same-beat}
@@ -97,18 +96,6 @@ sum-order a b c x y p q r e f =
     (sum-value b c y (second a b c) (third a b c) (all a b c) q r w u f)
     ∙ ap orderOf (sums-apart (first a b c) (second a b c) (third a b c))
     ∙ sym (order-values a b (first a b c) (second a b c) (all a b c) p q h v w)
-
--- a stands to a + c as 0 stands to c
-pub sum-grows : (a c x : Beat) → 0 < a .den → 0 < c .den → addBeats a c ≡ accepted x → orderOfBeats a x ≡ orderOfBeats (wholeBeat (pos 0)) c
-sum-grows a c x p r e =
-    let d = a .den * c .den in
-    let h : 0 < d = mul-pos p r in
-    let n = c .num *ℤ pos (a .den) in
-    let v : Worth a (a .num *ℤ pos (c .den)) d = own-value a (c .den) in
-    let w : Worth c n d = own-value-left c (a .den) in
-    order-values a x (a .num *ℤ pos (c .den)) (a .num *ℤ pos (c .den) +ℤ n) d p (beat-above x (accepted-beat _ _ x e)) h v (sum-value a c x (a .num *ℤ pos (c .den)) n d p r v w e)
-    ∙ ap orderOf (grown (a .num *ℤ pos (c .den)) n ∙ sym (+ℤ-idl (negℤ n)))
-    ∙ sym (order-values (wholeBeat (pos 0)) c (pos 0) n d (omega arith) r h (zero-*ℤ (pos d) ∙ sym (zero-*ℤ (pos 1))) w)
 
 -- a and b, each scaled by n above 0, stand as a and b do
 pub scale-order : (a b x y : Beat) (n : ℕ) → 0 < n → 0 < a .den → 0 < b .den → mulBeat a (pos n) 1 ≡ accepted x → mulBeat b (pos n) 1 ≡ accepted y → orderOfBeats x y ≡ orderOfBeats a b

@@ -21,7 +21,7 @@ pub use Rattle.numbers.proofs.Exacts.{value-exact, valued}
 -- whole numbers with a sign, for `omega`: each by its part above zero and its part below
 pub use Rattle.numbers.proofs.Parts.{up, down, eq-parts, lt-parts, parts-lt, sum-parts, up-neg, down-neg, up-times, down-times}
 pub use Rattle.numbers.proofs.Parts.{not-negative, natural, grows}
-pub use Rattle.numbers.proofs.Parts.{minus-times, times-times, sum-times, gap-times, swapped, swapped-signed, times-cancel, lt-trans, sums-apart, grown}
+pub use Rattle.numbers.proofs.Parts.{minus-times, times-times, sum-times, gap-times, swapped, swapped-signed, times-cancel, lt-trans, sums-apart}
 -- the order of two numbers
 pub use Rattle.numbers.proofs.Orders.{isLess, less-is, equal-only, same-equal, turned, exchanged, order-minus, order-times}
 -- by the order of two numbers; products

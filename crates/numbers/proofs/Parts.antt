@@ -139,9 +139,3 @@ pub sums-apart : (x y z : ℤ) → (x +ℤ z) -ℤ (y +ℤ z) ≡ x -ℤ y
 sums-apart x y z =
     eq-parts ((x +ℤ z) -ℤ (y +ℤ z)) (x -ℤ y)
     (omega (arith, sum-parts x z, sum-parts y z, sum-parts (x +ℤ z) (negℤ (y +ℤ z)), sum-parts x (negℤ y), up-neg (y +ℤ z), down-neg (y +ℤ z), up-neg y, down-neg y))
-
--- what is added stands to 0 as the sum stands to the number
-pub grown : (x z : ℤ) → x -ℤ (x +ℤ z) ≡ negℤ z
-grown x z =
-    eq-parts (x -ℤ (x +ℤ z)) (negℤ z)
-    (omega (arith, sum-parts x z, sum-parts x (negℤ (x +ℤ z)), up-neg (x +ℤ z), down-neg (x +ℤ z), up-neg z, down-neg z))

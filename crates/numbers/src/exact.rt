@@ -1,5 +1,6 @@
 // Exact products of 64 by 64 bits, their sums and their order: a sign and two words, where the
 // original has an i128.
+use crate::MOST;
 ghost use mathlib.Core.Path.{_≡_};
 ghost use Prim.Native.Nat.{min, _+_, _-_, _*_, _^_, _<_, _≤_};
 ghost use lib.Dec.{ltb, eqb};
@@ -15,8 +16,6 @@ pub struct Wide {
 }
 
 const HALF: u64 = 0x1_0000_0000;
-
-const MOST: u64 = 0xffff_ffff_ffff_ffff;
 
 impl Wide {
     // The exact product, by columns of 32 bits.
