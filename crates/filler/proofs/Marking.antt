@@ -9,8 +9,8 @@ use borrow.Author.Count.{below-none, below-more}
 use lib.ListN.{length, getD, set, length-set}
 use lib.Seq.{getD-set-same, getD-set-other}
 use Rattle.meter.specs.declared.MeterPoint.{MeterPoint}
-use Rattle.meter.specs.Meters.{pointsOf}
-use Rattle.meter.proofs.Laws.{pointAt, left, points-step, points-end}
+use Rattle.meter.specs.Meters.{pointsOf, pointAt}
+use Rattle.meter.proofs.Laws.{left, points-step, points-end}
 use Rattle.filler.specs.Numbers.{markFrom, markOf, Marked}
 use Rattle.filler.proofs.Numbering.{by-bar, mark-own, mark-other}
 

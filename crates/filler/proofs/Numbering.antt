@@ -9,8 +9,8 @@ use lib.ListN.{length, getD}
 use borrow.Author.Tests.{eq-eqb, ne-eqb, eqb-true, eqb-false, lt-ltb, le-ltb}
 use Rattle.numbers.proofs.Laws.{by-order, cases}
 use Rattle.meter.specs.declared.MeterPoint.{MeterPoint}
-use Rattle.meter.specs.Meters.{pointsOf, lastAt, nearer, nextChange, fallback, meterAt}
-use Rattle.meter.proofs.Laws.{pointAt, left, points-step, points-end, nearer-above, nearer-else, later-in, later-out}
+use Rattle.meter.specs.Meters.{pointsOf, pointAt, lastAt, nearer, nextChange, fallback, meterAt}
+use Rattle.meter.proofs.Laws.{left, points-step, points-end, nearer-above, nearer-else, later-in, later-out}
 use Rattle.filler.specs.Numbers.{markFrom, markOf, forceFrom, forceOf, numbered}
 use Rattle.filler.specs.Carried.{Clear}
 

@@ -10,10 +10,10 @@ use Rattle.numbers.specs.Answers.{Answer, accepted, refused}
 use Rattle.beats.specs.declared.Beat.{Beat}
 use Rattle.beats.specs.Sums.{addBeats, mulBeat}
 use Rattle.meter.specs.declared.MeterPoint.{MeterPoint}
-use Rattle.meter.specs.Meters.{lenOf}
+use Rattle.meter.specs.Meters.{pointAt, lenOf}
 use Rattle.meter.specs.Starts.{then, checkedBars}
 use Rattle.meter.specs.Fits.{isAccepted}
-use Rattle.meter.proofs.Laws.{pointAt, left, points-step, points-end}
+use Rattle.meter.proofs.Laws.{left, points-step, points-end}
 use Rattle.fits.specs.Decision.{lastBar, segment, reach, walked}
 
 -- ---- bars of one length

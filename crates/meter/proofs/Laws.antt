@@ -1,9 +1,9 @@
 -- What crates above may use of bars. They go by the starts, the counts and the points, and unfold neither the walks nor the search.
 
 -- the points of flat words, one at a time, and how many they are
-pub use Rattle.meter.proofs.Scanning.{pointAt, left, points-step, points-end, points-length}
+pub use Rattle.meter.proofs.Scanning.{left, points-step, points-end, points-length}
 -- a map without problems ascends
-pub use Rattle.meter.proofs.Passing.{from-ascends, sound-ascends}
+pub use Rattle.meter.proofs.Passing.{from-ascends}
 -- and is short; a pickup that is not below 0 is sound
 pub use Rattle.meter.proofs.Fitting.{points-few, forward-sound}
 -- one pass over a map whose bars ascend: what is left of it, with the meter at a bar, says what the whole map says from there on

@@ -12,10 +12,10 @@ use Rattle.numbers.proofs.Laws.{by-order, and-left, and-right}
 use Rattle.beats.specs.declared.Beat.{Beat}
 use Rattle.meter.specs.declared.MeterPoint.{MeterPoint}
 use Rattle.meter.specs.declared.Pickup.{Pickup}
-use Rattle.meter.specs.Meters.{nearer, lastAt, fallback, meterAt, lenOf, barLen, nextChange}
+use Rattle.meter.specs.Meters.{pointAt, nearer, lastAt, fallback, meterAt, lenOf, barLen, nextChange}
 use Rattle.meter.specs.Starts.{afterBars, ending, segments, startOf, ascends}
-use Rattle.meter.specs.Fits.{goodDen, soundFrom, firstZero, soundMap}
-use Rattle.meter.proofs.Scanning.{pointAt, left, points-step, points-end}
+use Rattle.meter.specs.Fits.{goodDen, soundFrom}
+use Rattle.meter.proofs.Scanning.{left, points-step, points-end}
 use Rattle.meter.proofs.Walking.{nearer-above, nearer-else, later-in, later-out, ending-bars, ending-none, len-rest, segments-over, segments-turn, one, start-segments}
 
 -- from a bar, which starts at `at` and where the meter is `meter`, to the bar `end`, over the points that are left
@@ -173,7 +173,3 @@ from-ascends (point ∷ rest) low s =
     ap (λ (t : Bool). t && ascends (point .bar) rest) (and-left (leb low (point .bar)) (n && (d && more)) s)
     ∙ ascends-lower rest (point .bar) (suc (point .bar)) (omega arith)
     (from-ascends rest (suc (point .bar)) (and-right d more (and-right n (d && more) (and-right (leb low (point .bar)) (n && (d && more)) s))))
-
-pub sound-ascends : (map : List MeterPoint) → soundMap map ≡ true → ascends 0 map ≡ true
-unfolding soundMap
-sound-ascends map s = from-ascends map 0 (and-right (firstZero map) (soundFrom 0 map) (and-right (leb (length map) 256) (firstZero map && soundFrom 0 map) s))

@@ -10,7 +10,7 @@ use lib.ListN.{length, getD, drop, length-drop}
 use lib.Seq.{drop-cons}
 use borrow.Author.Tests.{le-leb, lt-leb}
 use Rattle.meter.specs.declared.MeterPoint.{MeterPoint}
-use Rattle.meter.specs.Meters.{pointsOf, later, lastAt, nearer, nextChange}
+use Rattle.meter.specs.Meters.{pointsOf, pointAt, later, lastAt, nearer, nextChange}
 use Rattle.meter.specs.Starts.{ascends}
 
 -- three words, and the rest
@@ -37,15 +37,11 @@ few-words (b ∷ n ∷ []) h = refl
 few-words (b ∷ n ∷ d ∷ rest) h = let z : ⊥ = omega arith in absurd z
 
 module _ (words : List ℕ) (i : ℕ) where
-  -- the point whose first word is the one at i
-  abbrev pub pointAt : MeterPoint
-  pointAt = record { bar = getD words i 0; numerator = getD words (i + 1) 0; denominator = getD words (i + 2) 0 }
-
   -- the points from i on
   abbrev pub left : List MeterPoint
   left = pointsOf (drop i words)
 
-  pub points-step : i + 2 < length words → left ≡ pointAt ∷ pointsOf (drop (i + 3) words)
+  pub points-step : i + 2 < length words → left ≡ pointAt words i ∷ pointsOf (drop (i + 3) words)
   unfolding pointsOf
   points-step h = ap pointsOf (drop-three words i h)
 

@@ -1,9 +1,10 @@
 -- The meter in force at a bar, and how long a bar lasts.
 use mathlib.Core.Bool.{Bool, true, cond}
 use mathlib.Core.List.{List, [], _∷_}
-use Prim.Native.Nat.{ℕ, zero, suc, min, max, _*_}
+use Prim.Native.Nat.{ℕ, zero, suc, min, max, _+_, _*_}
 use lib.Dec.{leb, ltb}
 use lib.IntN.{pos}
+use lib.ListN.{getD}
 use Rattle.beats.specs.declared.Beat.{Beat}
 use Rattle.beats.specs.Beats.{newBeat, isBeat}
 use Rattle.meter.specs.declared.MeterPoint.{MeterPoint}
@@ -18,6 +19,10 @@ pointsOf [] = []
 pointsOf (bar ∷ []) = []
 pointsOf (bar ∷ numerator ∷ []) = []
 pointsOf (bar ∷ numerator ∷ denominator ∷ rest) = record { bar = bar; numerator = numerator; denominator = denominator } ∷ pointsOf rest
+
+-- the point whose first word is the one at i
+abbrev pub pointAt : List ℕ → ℕ → MeterPoint
+pointAt words i = record { bar = getD words i 0; numerator = getD words (i + 1) 0; denominator = getD words (i + 2) 0 }
 
 -- ---- the meter in force
 

@@ -8,8 +8,8 @@ use lib.Seq.{take-suc-set}
 use native.Mathlib.Nat.{add-mul}
 use native.Mathlib.Numerals.{add-one}
 use Rattle.meter.specs.declared.MeterPoint.{MeterPoint}
-use Rattle.meter.specs.Meters.{pointsOf}
-use Rattle.meter.proofs.Laws.{pointAt, left, points-step, points-end}
+use Rattle.meter.specs.Meters.{pointsOf, pointAt}
+use Rattle.meter.proofs.Laws.{left, points-step, points-end}
 
 -- in an array of so many points, the first k are stored
 pub record Filled (most : ℕ) (words : List ℕ) (points : List MeterPoint) (k : ℕ) : Type 0 where

@@ -6,7 +6,7 @@ use problems::ProblemsAnswer;
 ghost use mathlib.Core.Path.{_≡_};
 ghost use Prim.Native.Nat.{_+_, _<_};
 ghost use lib.ListN.{length};
-ghost use Rattle.meter.proofs.Laws.{pointAt};
+ghost use Rattle.meter.specs.Meters.{pointAt};
 ghost use Rattle.problems.specs.Readings.{readProblems};
 ghost use Rattle.points.specs.Answers.{flatAnswer, flatAfter};
 
