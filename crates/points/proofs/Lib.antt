@@ -1,2 +1,3 @@
 pub mod Filling
 pub mod Lending
+pub mod Meeting

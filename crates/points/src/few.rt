@@ -9,7 +9,8 @@ ghost use Rattle.meter.specs.Meters.{pointsOf};
 ghost use Rattle.problems.specs.Answers.{meterAnswer, meterAfter};
 ghost use Rattle.problems.specs.Readings.{readProblems};
 
-// More than a map without problems has.
+// More than the 256 points of a map without problems, so that one with some too many, problem 1,
+// goes here too. The array is made anew at each call: at this size that costs little.
 pub const MOST: usize = 300;
 
 // The array that begins with the points of the words.

@@ -9,7 +9,8 @@ ghost use Rattle.meter.specs.Meters.{pointsOf};
 ghost use Rattle.problems.specs.Answers.{meterAnswer, meterAfter};
 ghost use Rattle.problems.specs.Readings.{readProblems};
 
-// One more than a map may have.
+// One more than the 65,536 points of a map that is not too long: the call over points is lent one
+// too many too, and refuses by 4 itself.
 pub const MOST: usize = 65537;
 
 // The array that begins with the points of the words.
