@@ -169,7 +169,7 @@ pub fn beat_to_frames(beat: Beat, bpm: f32, rate: u32) -> FrameAnswer
 }
 
 // The step of a beat on a grid of so many steps a beat. The beat is in lowest terms, so it lies on
-// the grid exactly where its denominator divides the steps, and no product has to be wide.
+// the grid exactly where its denominator divides the steps, and no product is wider than two words.
 pub fn beat_to_step(beat: Beat, steps: u32) -> StepAnswer
     ensures { λ r. ⌜ readStep r ≡ stepAnswer beat steps ⌝ }
 {
