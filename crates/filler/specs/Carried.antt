@@ -1,4 +1,4 @@
--- What is carried from line to line: a segment of bars of one length, and where the walk over the tempo map stands.
+-- What is carried from line to line: a segment of bars of one length, and where the walks over the tempo map stand.
 use mathlib.Core.Bool.{Bool, cond}
 use mathlib.Core.Path.{_≡_}
 use mathlib.Core.List.{List, [], _∷_}
@@ -81,6 +81,7 @@ module _ (nums : List ℤ) (dens tempos : List ℕ) where
     pub own : Answers beat w
     pub later : (further : Float) → T (le beat further) → Answers further w
 
+  -- for every beat, as the beginning does
   abbrev pub ServesAll : Stand → Type 0
   ServesAll w = (beat : Float) → Serves beat w
 

@@ -1,4 +1,4 @@
--- The loop keeps both carried states, so that each line is that of its bar asked by itself.
+-- The loop keeps what is carried, so that each line is that of its bar asked by itself.
 use mathlib.Core.Path.{_∙_, ap}
 use mathlib.Core.Logic.{⊎-elim}
 use Prim.Native.Nat.{_-_, _<_}
