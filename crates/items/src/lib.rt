@@ -18,7 +18,7 @@ pub enum Reason {
     NotNumber,
     // not the text of a beat
     NotBeat,
-    // the text of a beat that is not in lowest terms, or is over 0
+    // the text of a beat that is not in lowest terms, or whose denominator is 0
     NotLowest,
     NotTempo,
     // a meter without a slash

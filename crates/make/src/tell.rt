@@ -7,7 +7,10 @@ fn reason(reason: Reason) {
         Reason::Words => io::write_all(2, b"words are missing, or there are too many\n"),
         Reason::NotNumber => io::write_all(2, b"not a number from 0 to 4294967295\n"),
         Reason::NotBeat => io::write_all(2, b"not a beat: n or n/d\n"),
-        Reason::NotLowest => io::write_all(2, b"the beat is not in lowest terms, or is over 0\n"),
+        Reason::NotLowest => io::write_all(
+            2,
+            b"the beat is not in lowest terms, or its denominator is 0\n",
+        ),
         Reason::NotTempo => io::write_all(2, b"not a tempo\n"),
         Reason::NotMeter => io::write_all(2, b"not a meter: n/d\n"),
         Reason::Twice => io::write_all(2, b"said twice\n"),
