@@ -11,7 +11,7 @@ use Rattle.transport.specs.declared.Transport.{Transport}
 use Rattle.transport.specs.Transports.{sound, playing}
 use Rattle.transport.specs.Advances.{advanced}
 use Rattle.transport.proofs.Laws.{stays-put}
-use Rattle.lines.specs.Lines.{linesAnswer}
+use Rattle.lines.specs.Lines.{linesAnswer, newOr}
 use Rattle.lines.proofs.Laws.{fine-lines}
 use Rattle.cues.specs.declared.plan.Plan.{Plan}
 use Rattle.cues.specs.declared.count.Counted.{Counted}
@@ -20,7 +20,7 @@ use Rattle.cues.specs.declared.CueReport.{CueReport}
 use Rattle.cues.specs.declared.CueReport.the-variants.{Cued, OutOfReach, NoRoom}
 use Rattle.cues.specs.declared.CueAnswer.{CueAnswer}
 use Rattle.cues.specs.Sounding.{Cue, cues}
-use Rattle.cues.specs.CueCall.{roomFor, playTest, passing, cueTest, Said, movedBy, handedBy, cueAnswer, flat, over, wordsBy, cueAfter}
+use Rattle.cues.specs.CueCall.{roomFor, playTest, passing, cueTest, Said, movedBy, handedBy, cueAnswer, flat, over, cueAfter}
 use Rattle.cues.specs.Readings.{readReport, readCues, refusedBy}
 use Rattle.cues.specs.Plans.{planCues, Planned, countedTo, written}
 use Rattle.cues.proofs.Sounding.{sounds-none, silent}
@@ -45,12 +45,12 @@ module _ (t : Transport) (lines : List ℕ) (frames : ℕ) (out : List ℕ) wher
   refuses : (report : CueReport) (number : ℕ) (r : CueAnswer) → readReport report ≡ refused number [] → test ≡ refused number [] → r ≡ refusedBy t report → Answers r out
   refuses report number r read e is = (
     ap readCues is ∙ ap (λ (answer : Answer Said). record { transport = t; answer = answer }) read ∙ sym (ap (λ (a : Answer Unit). handedBy t a (movedBy run (length all))) e),
-    sym (ap (λ (a : Answer Unit). wordsBy out a (over (flat all) out)) e),
+    sym (ap (λ (a : Answer Unit). newOr a (over (flat all) out) out) e),
   )
 
   accepts : (r : CueAnswer) (words : List ℕ) → test ≡ accepted tt → readCues r ≡ movedBy run (length all) → words ≡ over (flat all) out → Answers r words
   accepts r words e is left =
-      (is ∙ sym (ap (λ (a : Answer Unit). handedBy t a (movedBy run (length all))) e), left ∙ sym (ap (λ (a : Answer Unit). wordsBy out a (over (flat all) out)) e))
+      (is ∙ sym (ap (λ (a : Answer Unit). handedBy t a (movedBy run (length all))) e), left ∙ sym (ap (λ (a : Answer Unit). newOr a (over (flat all) out) out) e))
 
   -- ---- 12
 

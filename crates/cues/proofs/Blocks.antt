@@ -16,7 +16,8 @@ use Rattle.transport.specs.Advances.{advanced}
 use Rattle.transport.specs.Promise.{Composes}
 use Rattle.transport.proofs.Laws.{advanced-sound, advanced-low, composes}
 use Rattle.cues.specs.Sounding.{Cue, cues, later}
-use Rattle.cues.specs.CueCall.{cueTest, Said, movedBy, handedBy, flat, over, wordsBy}
+use Rattle.lines.specs.Lines.{newOr}
+use Rattle.cues.specs.CueCall.{cueTest, Said, movedBy, handedBy, flat, over}
 use Rattle.cues.specs.Promise.{Block, said, pairsOf, answerTo, saidTo, next, cuesIn}
 use Rattle.cues.specs.Promise.{allAccepted, joinedCues, lastTransport, someWraps, someFinishes, framesIn, ByBlocks, StaysSound}
 use Rattle.cues.proofs.Sounding.{cues-on}
@@ -51,7 +52,7 @@ module _ (lines : List ℕ) where
     says-by : (a : Answer Unit) → test ≡ a → isAccepted (handedBy t a (movedBy (advanced t (block .frames)) (length (cues lines t (block .frames)))) .answer) ≡ true → Says t block
     says-by (accepted u) e h = record {
       cues-are =
-          ap (λ (a : Answer Unit). pairsOf (said (handedBy t a moved .answer) .count) (wordsBy (block .out) a words)) e
+          ap (λ (a : Answer Unit). pairsOf (said (handedBy t a moved .answer) .count) (newOr a words (block .out))) e
           ∙ read-back (cues lines t (block .frames)) (drop (length (flat (cues lines t (block .frames)))) (block .out));
       next-is = ap (λ (a : Answer Unit). handedBy t a moved .transport) e;
       wraps-is = ap (λ (a : Answer Unit). said (handedBy t a moved .answer) .wrapped) e;

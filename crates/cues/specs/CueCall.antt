@@ -10,7 +10,7 @@ use Rattle.transport.specs.declared.Transport.{Transport}
 use Rattle.transport.specs.Transports.{sound, playing}
 use Rattle.transport.specs.Changes.{Handed}
 use Rattle.transport.specs.Advances.{advanced}
-use Rattle.lines.specs.Lines.{linesAnswer}
+use Rattle.lines.specs.Lines.{linesAnswer, newOr}
 use Rattle.cues.specs.Sounding.{Cue, cues}
 
 -- ---- refusals
@@ -66,9 +66,5 @@ abbrev pub over : List ℕ → List ℕ → List ℕ
 over words out = words ++ drop (length words) out
 
 -- a refusal changes no word
-abbrev pub wordsBy : List ℕ → Answer Unit → List ℕ → List ℕ
-wordsBy out (accepted u) words = words
-wordsBy out (refused number facts) words = out
-
 abbrev pub cueAfter : Transport → List ℕ → ℕ → List ℕ → List ℕ
-cueAfter t lines frames out = wordsBy out (cueTest t lines frames out) (over (flat (cues lines t frames)) out)
+cueAfter t lines frames out = newOr (cueTest t lines frames out) (over (flat (cues lines t frames)) out) out

@@ -34,8 +34,8 @@ use Rattle.tempo.proofs.Laws.{seconds-at-up}
 use Rattle.transport.specs.declared.Transport.{Transport}
 use Rattle.timeline.specs.Places.{floatOf, secondsOf, frameAtBar}
 use Rattle.timeline.proofs.Laws.{bar-frame}
-use Rattle.lines.specs.Lines.{ascendsFrom, ascends, linesAnswer}
-use Rattle.filler.specs.Fills.{entries, barLines, newOr}
+use Rattle.lines.specs.Lines.{ascendsFrom, ascends, linesAnswer, newOr}
+use Rattle.filler.specs.Fills.{entries, barLines}
 use Rattle.filler.specs.Promise.{InOrder, LinesPromise}
 use Rattle.filler.proofs.Filling.{entries-length}
 use Rattle.filler.proofs.Testing.{accepted-known}

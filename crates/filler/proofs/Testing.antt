@@ -20,7 +20,8 @@ use Rattle.timeline.specs.declared.tests.Test.the-variants.{Sound as Passed, Re
 use Rattle.timeline.specs.Places.{Parallel}
 use Rattle.timeline.specs.Tests.{wordsTest, worse, mapsTest, testOf}
 use Rattle.timeline.proofs.Laws.{ifPassed, by-test, passes, both-sound, parallel}
-use Rattle.filler.specs.Fills.{barLines, linesTest, fillAnswer, newOr, fillAfter}
+use Rattle.lines.specs.Lines.{newOr}
+use Rattle.filler.specs.Fills.{barLines, linesTest, fillAnswer, fillAfter}
 
 short : (n : ℕ) → linesTest n ≡ Sound → n ≤ 65536
 short n e = go (leb n 65536) refl e

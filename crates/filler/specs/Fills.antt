@@ -14,6 +14,7 @@ use Rattle.tempo.specs.Tempos.{TempoPoint, tempoPoints}
 use Rattle.transport.specs.declared.Transport.{Transport}
 use Rattle.timeline.specs.Places.{frameAtBar}
 use Rattle.timeline.specs.Tests.{worse, mapsTest, ifTested}
+use Rattle.lines.specs.Lines.{newOr}
 
 -- n entries, the first with what is asked of bar k
 unfoldable pub entries : (ℕ → ℕ) → ℕ → ℕ → List ℕ
@@ -33,10 +34,6 @@ abbrev pub fillAnswer : Transport → List ℕ → List ℤ → List ℕ → Lis
 fillAnswer t words nums dens tempos out = ifTested t (worse (linesTest (length out)) (mapsTest words nums dens tempos)) (accepted tt)
 
 -- the new words of a call that is accepted, and the old ones of a call that is refused
-abbrev pub newOr : Answer Unit → List ℕ → List ℕ → List ℕ
-newOr (accepted u) new old = new
-newOr (refused number facts) new old = old
-
 abbrev pub fillAfter : Transport → List ℕ → List ℤ → List ℕ → List ℕ → List ℕ → List ℕ
 fillAfter t words nums dens tempos out =
     newOr (fillAnswer t words nums dens tempos out) (barLines t (pointsOf words) (tempoPoints nums dens tempos) (length out)) out

@@ -26,10 +26,11 @@ unfoldable pub between : ℕ → ℕ → List ℕ → List ℕ
 between start end [] = []
 between start end (line ∷ rest) = elim (leb start line && ltb line end) [ true ↦ line ∷ between start end rest | false ↦ between start end rest ]
 
--- no lines of a list that is refused
-abbrev pub unlessRefused : Answer Unit → List ℕ → List ℕ
-unlessRefused (accepted u) lines = lines
-unlessRefused (refused number facts) lines = []
+-- what an accepted call gives, and what stands where it is refused
+abbrev pub newOr : Answer Unit → List ℕ → List ℕ → List ℕ
+newOr (accepted u) new old = new
+newOr (refused number facts) new old = old
 
+-- no lines of a list that is refused
 abbrev pub rangeOf : ℕ → ℕ → List ℕ → List ℕ
-rangeOf start end lines = unlessRefused (linesAnswer lines) (between start end lines)
+rangeOf start end lines = newOr (linesAnswer lines) (between start end lines) []
