@@ -14,10 +14,10 @@ use asking::refusals::TOO_LONG;
 use asking::refusals::UNEVEN;
 use asking::refusals::UNSOUND;
 use asking_clock::TRANSPORT;
+use between::CopyAnswer;
 use cues::CueAnswer;
 use cues::CueReport;
 use filler::FillAnswer;
-use lines::LinesReport;
 use timeline::tests::Refusal;
 use transport::Transport;
 
@@ -72,14 +72,6 @@ fn fill_answer(out: &mut [u8; HELD], to: &mut usize, answer: FillAnswer) {
         FillAnswer::Filled => asking::first(out, to, 0),
         FillAnswer::Refused(why) => refusal(out, to, why),
     }
-}
-
-// The lines given back: how many, and each.
-fn range_line(out: &mut [u8; HELD], to: &mut usize, part: &[u64]) {
-    asking::first(out, to, 0);
-    asking::more(out, to, part.len() as u64);
-    asking::more_u64s(out, to, part);
-    asking::end_line(out, to);
 }
 
 // Whether there is so much room as the word at an index says, and a transport before it.
@@ -153,8 +145,16 @@ fn ask_fill(q: &[u32], space: &mut [i64], lent: &mut [u64], out: &mut [u8; HELD]
     end_lent(out, to, lent);
 }
 
-// 52: u64 start, u64 end, U64s lines.
-fn ask_range(q: &[u32], space: &mut [u64], out: &mut [u8; HELD], to: &mut usize) {
+// The lines given back, which the first n lent words are: how many, and each.
+fn range_line(out: &mut [u8; HELD], to: &mut usize, lent: &mut [u64], n: usize) {
+    let part = asking::lend_u64s(lent, n);
+    asking::first(out, to, 0);
+    asking::more(out, to, n as u64);
+    end_lent(out, to, part);
+}
+
+// 52: u64 start, u64 end, U64s lines. There is room for a longest list.
+fn ask_range(q: &[u32], space: &mut [u64], lent: &mut [u64], out: &mut [u8; HELD], to: &mut usize) {
     if asking::past_longs(q, 4) != q.len() {
         asking::unknown(out, to);
         return;
@@ -162,12 +162,11 @@ fn ask_range(q: &[u32], space: &mut [u64], out: &mut [u8; HELD], to: &mut usize)
     let start = asking::u64_at(q, 0);
     let end = asking::u64_at(q, 2);
     let lines = numbers_at(q, 4, space);
-    let report = between::report_of(lines, start, end);
-    let part = between::part_of(lines, start, end);
-    match report {
-        LinesReport::Fine => range_line(out, to, part),
-        LinesReport::TooLong => asking::refused(out, to, TOO_LONG),
-        LinesReport::Descend => asking::refused(out, to, LINES_DESCEND),
+    match between::copy_between(lines, start, end, lent) {
+        CopyAnswer::Copied(n) => range_line(out, to, lent, n),
+        CopyAnswer::TooLong => asking::refused(out, to, TOO_LONG),
+        CopyAnswer::Descend => asking::refused(out, to, LINES_DESCEND),
+        CopyAnswer::NoRoom => asking::refused(out, to, NO_ROOM),
     }
 }
 
@@ -183,7 +182,7 @@ fn answer(
     match op {
         0x50 => ask_cue(q, lines, lent, out, to),
         0x51 => ask_fill(q, nums, lent, out, to),
-        0x52 => ask_range(q, lines, out, to),
+        0x52 => ask_range(q, lines, lent, out, to),
         _ => asking::unknown(out, to),
     }
 }

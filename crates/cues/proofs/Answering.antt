@@ -11,7 +11,7 @@ use Rattle.transport.specs.declared.Transport.{Transport}
 use Rattle.transport.specs.Transports.{sound, playing}
 use Rattle.transport.specs.Advances.{advanced}
 use Rattle.transport.proofs.Laws.{stays-put}
-use Rattle.lines.specs.Lines.{linesAnswer, newOr}
+use Rattle.lines.specs.Lines.{linesAnswer, newOr, over}
 use Rattle.lines.proofs.Laws.{fine-lines}
 use Rattle.cues.specs.declared.plan.Plan.{Plan}
 use Rattle.cues.specs.declared.count.Counted.{Counted}
@@ -20,7 +20,7 @@ use Rattle.cues.specs.declared.CueReport.{CueReport}
 use Rattle.cues.specs.declared.CueReport.the-variants.{Cued, OutOfReach, NoRoom}
 use Rattle.cues.specs.declared.CueAnswer.{CueAnswer}
 use Rattle.cues.specs.Sounding.{Cue, cues}
-use Rattle.cues.specs.CueCall.{roomFor, playTest, passing, cueTest, Said, movedBy, handedBy, cueAnswer, flat, over, cueAfter}
+use Rattle.cues.specs.CueCall.{roomFor, playTest, passing, cueTest, Said, movedBy, handedBy, cueAnswer, flat, cueAfter}
 use Rattle.cues.specs.Readings.{readReport, readCues, refusedBy}
 use Rattle.cues.specs.Plans.{planCues, Planned, countedTo, written}
 use Rattle.cues.proofs.Sounding.{sounds-none, silent}

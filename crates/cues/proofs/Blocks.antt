@@ -16,8 +16,8 @@ use Rattle.transport.specs.Advances.{advanced}
 use Rattle.transport.specs.Promise.{Composes}
 use Rattle.transport.proofs.Laws.{advanced-sound, advanced-low, composes}
 use Rattle.cues.specs.Sounding.{Cue, cues, later}
-use Rattle.lines.specs.Lines.{newOr}
-use Rattle.cues.specs.CueCall.{cueTest, Said, movedBy, handedBy, flat, over}
+use Rattle.lines.specs.Lines.{newOr, over}
+use Rattle.cues.specs.CueCall.{cueTest, Said, movedBy, handedBy, flat}
 use Rattle.cues.specs.Promise.{Block, said, pairsOf, answerTo, saidTo, next, cuesIn}
 use Rattle.cues.specs.Promise.{allAccepted, joinedCues, lastTransport, someWraps, someFinishes, framesIn, ByBlocks, StaysSound}
 use Rattle.cues.proofs.Sounding.{cues-on}

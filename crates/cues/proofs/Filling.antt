@@ -10,12 +10,12 @@ use lib.Dec.{leb}
 use lib.ListN.{length, drop, length-append}
 use lib.Seq.{sets, sets-eq, length-sets}
 use Rattle.numbers.proofs.Laws.{sets-append}
-use Rattle.lines.specs.Lines.{ascends, between}
+use Rattle.lines.specs.Lines.{ascends, between, over}
 use Rattle.lines.specs.Places.{Splits}
 use Rattle.cues.specs.declared.plan.Plan.{Plan}
 use Rattle.cues.specs.declared.count.Counted.{Counted}
 use Rattle.cues.specs.declared.count.Counted.the-variants.{Fits, TooMany}
-use Rattle.cues.specs.CueCall.{flat, over}
+use Rattle.cues.specs.CueCall.{flat}
 use Rattle.cues.specs.Plans.{planCues, Fitting, countedTo, written, partWords, lapWords, Within, Writes, WritesLaps}
 use Rattle.cues.proofs.Parts.{length-between, length-plan, length-flat, within, plan-words}
 

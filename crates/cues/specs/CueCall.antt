@@ -1,16 +1,16 @@
 -- The cue call. It refuses by 12, 4 and 11, and where the transport plays by 10 and 8, in this order, before the first word is written.
 use mathlib.Core.Bool.{Bool, cond}
-use mathlib.Core.List.{List, [], _∷_, _++_}
+use mathlib.Core.List.{List, [], _∷_}
 use Prim.Native.Nat.{ℕ, _+_, _/_, _-_, _^_}
 use lib.Dec.{leb}
-use lib.ListN.{length, drop}
+use lib.ListN.{length}
 use Rattle.numbers.specs.Answers.{Answer, accepted, refused}
 use Rattle.transport.specs.declared.playhead.Run.{Run}
 use Rattle.transport.specs.declared.Transport.{Transport}
 use Rattle.transport.specs.Transports.{sound, playing}
 use Rattle.transport.specs.Changes.{Handed}
 use Rattle.transport.specs.Advances.{advanced}
-use Rattle.lines.specs.Lines.{linesAnswer, newOr}
+use Rattle.lines.specs.Lines.{linesAnswer, newOr, over}
 use Rattle.cues.specs.Sounding.{Cue, cues}
 
 -- ---- refusals
@@ -60,10 +60,6 @@ cueAnswer t lines frames out = handedBy t (cueTest t lines frames out) (movedBy 
 abbrev pub flat : List Cue → List ℕ
 flat [] = []
 flat (cue ∷ rest) = cue .0 ∷ cue .1 ∷ flat rest
-
--- words written over a list from its start; later words stay
-abbrev pub over : List ℕ → List ℕ → List ℕ
-over words out = words ++ drop (length words) out
 
 -- a refusal changes no word
 abbrev pub cueAfter : Transport → List ℕ → ℕ → List ℕ → List ℕ
