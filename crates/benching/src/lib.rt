@@ -3,7 +3,9 @@
 //
 // `PROGRAM CALL SIZE TURNS` runs one row and writes `CALL SIZE CHECKSUM`. With no arguments a
 // program runs each of its rows a few turns: that is its list of rows, and what a check compares.
-ghost use Prim.Native.Nat.{_<_};
+ghost use mathlib.Core.Path.{_≡_};
+ghost use Prim.Native.Nat.{_+_, _%_};
+ghost use Rattle.benching.specs.Words.{nextOf, mixedOf, placeOf, fractionWord};
 use libc::STDOUT_FILENO;
 
 pub mod maps;
@@ -21,7 +23,9 @@ pub const START: u64 = 0x2545_f491_4f6c_dd1d;
 
 // The number after x in a sequence that looks random, and that never reaches 0 from another. It
 // has shifts alone, since a product would have to wrap.
-pub fn next(x: u64) -> u64 {
+pub fn next(x: u64) -> u64
+    ensures { λ r. ⌜ r ≡ nextOf x ⌝ }
+{
     let a = x ^ x << 13;
     let b = a ^ a >> 7;
     b ^ b << 17
@@ -29,20 +33,22 @@ pub fn next(x: u64) -> u64 {
 
 // The checksum of the answers so far and of one more. The sum is turned first, so that two answers
 // that change places change it.
-pub fn mixed(sum: u64, answer: u64) -> u64 {
+pub fn mixed(sum: u64, answer: u64) -> u64
+    ensures { λ r. ⌜ r ≡ mixedOf sum answer ⌝ }
+{
     std::num::wrapping_add_u64(sum << 5 | sum >> 59, answer)
 }
 
 // The index of the input that turn i reads: the inputs come round.
 pub fn input_of(i: u64) -> usize
-    ensures { λ r. ⌜ r < 8192 ⌝ }
+    ensures { λ r. ⌜ r ≡ i % 8192 ⌝ }
 {
     (i % 8192) as usize
 }
 
 // The index of the input after that.
 pub fn input_after(i: u64) -> usize
-    ensures { λ r. ⌜ r < 8192 ⌝ }
+    ensures { λ r. ⌜ r ≡ (i + 1) % 8192 ⌝ }
 {
     ((i % 8192 + 1) % 8192) as usize
 }
@@ -50,13 +56,17 @@ pub fn input_after(i: u64) -> usize
 // Where input k lies, of 8,192 places in a row. The first lies in the middle, and each next one a
 // golden section further, round and round. So the first seven are spread as all of them are, and a
 // call that is too slow for more turns costs about as much a turn as it would over all.
-pub fn place(k: usize) -> u32 {
+pub fn place(k: usize) -> u32
+    ensures { λ r. ⌜ r ≡ placeOf k ⌝ }
+{
     ((4096 + 5063 * (k % 8192)) % 8192) as u32
 }
 
 // A fraction as one word: the numerator's size, its sign in the highest bit, and the denominator in
 // the upper half.
-pub fn fraction_word(num: i64, den: u32) -> u64 {
+pub fn fraction_word(num: i64, den: u32) -> u64
+    ensures { λ r. ⌜ r ≡ fractionWord num den ⌝ }
+{
     let sign = numbers::negative(num) as u64;
     numbers::magnitude(num) ^ sign << 63 ^ (den as u64) << 32
 }
