@@ -4,13 +4,13 @@ use mathlib.Core.List.{List, [], _∷_, _++_}
 use Prim.Native.Nat.{ℕ, _+_, _/_, _-_, _^_}
 use lib.Dec.{leb}
 use lib.ListN.{length, drop}
-use Rattle.numbers.specs.Answers.{Answer, accepted, refused}
+use Rattle.numbers.specs.Answers.{Answer, accepted, refused, given}
 use Rattle.transport.specs.declared.playhead.Run.{Run}
 use Rattle.transport.specs.declared.Transport.{Transport}
 use Rattle.transport.specs.Transports.{sound, playing}
 use Rattle.transport.specs.Changes.{Handed}
 use Rattle.transport.specs.Advances.{advanced}
-use Rattle.lines.specs.Lines.{linesAnswer, newOr}
+use Rattle.lines.specs.Lines.{linesAnswer}
 use Rattle.cues.specs.Sounding.{Cue, cues}
 
 -- ---- refusals
@@ -67,4 +67,4 @@ over words out = words ++ drop (length words) out
 
 -- a refusal changes no word
 abbrev pub cueAfter : Transport → List ℕ → ℕ → List ℕ → List ℕ
-cueAfter t lines frames out = newOr (cueTest t lines frames out) (over (flat (cues lines t frames)) out) out
+cueAfter t lines frames out = given (λ u. over (flat (cues lines t frames)) out) (cueTest t lines frames out) out

@@ -11,3 +11,8 @@ pub data Answer (A : Type 0) : Type 0 where
 abbrev pub number : {A : Type 0} → Answer A → ℕ
 number (accepted a) = 0
 number (refused n facts) = n
+
+-- what an accepted call gives, and what stands where it is refused
+abbrev pub given : {A B : Type 0} → (A → B) → Answer A → B → B
+given part (accepted a) old = part a
+given part (refused number facts) old = old
