@@ -4,8 +4,8 @@ use mathlib.Core.List.{List, []}
 use Prim.Native.Nat.{ℕ}
 use lib.Dec.{leb}
 use lib.ListN.{length}
-use Rattle.numbers.specs.Answers.{Answer, accepted, refused}
-use Rattle.lines.specs.Lines.{linesAnswer, newOr, over, rangeOf}
+use Rattle.numbers.specs.Answers.{Answer, accepted, refused, given, over}
+use Rattle.lines.specs.Lines.{linesAnswer, rangeOf}
 
 -- ---- a part of lines, by what the test of the lines says
 
@@ -20,7 +20,7 @@ partAnswer (refused number facts) part out = refused number facts
 
 -- a refusal changes no word
 abbrev pub partAfter : Answer Unit → List ℕ → List ℕ → List ℕ
-partAfter test part out = newOr test (cond (roomFor part out) (over part out) out) out
+partAfter test part out = given (λ n. over part out) (partAnswer test part out) out
 
 -- ---- the lines from start up to end
 

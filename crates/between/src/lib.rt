@@ -4,7 +4,7 @@ use lines::LinesReport;
 ghost use mathlib.Core.Path.{_≡_};
 ghost use Prim.Native.Nat.{_≤_};
 ghost use lib.ListN.{length};
-ghost use Rattle.lines.specs.Lines.{over};
+ghost use Rattle.numbers.specs.Answers.{over};
 ghost use Rattle.lines.specs.Readings.{readLines};
 ghost use Rattle.between.specs.Copies.{partAnswer, partAfter, copyAnswer, copyAfter};
 ghost use Rattle.between.specs.Readings.{readCopy};

@@ -5,13 +5,13 @@ use mathlib.Core.List.{List, []}
 use Prim.Native.Nat.{ℕ, _+_, _-_, _/_, _≤_, _<_, _^_}
 use borrow.Author.Tests.{le-leb, lt-leb}
 use lib.ListN.{length}
-use Rattle.numbers.specs.Answers.{Answer, accepted, refused}
+use Rattle.numbers.specs.Answers.{Answer, accepted, refused, given, over}
 use Rattle.transport.specs.declared.playhead.Run.{Run}
 use Rattle.transport.specs.declared.Transport.{Transport}
 use Rattle.transport.specs.Transports.{sound, playing}
 use Rattle.transport.specs.Advances.{advanced}
 use Rattle.transport.proofs.Laws.{stays-put}
-use Rattle.lines.specs.Lines.{linesAnswer, newOr, over}
+use Rattle.lines.specs.Lines.{linesAnswer}
 use Rattle.lines.proofs.Laws.{fine-lines}
 use Rattle.cues.specs.declared.plan.Plan.{Plan}
 use Rattle.cues.specs.declared.count.Counted.{Counted}
@@ -45,12 +45,12 @@ module _ (t : Transport) (lines : List ℕ) (frames : ℕ) (out : List ℕ) wher
   refuses : (report : CueReport) (number : ℕ) (r : CueAnswer) → readReport report ≡ refused number [] → test ≡ refused number [] → r ≡ refusedBy t report → Answers r out
   refuses report number r read e is = (
     ap readCues is ∙ ap (λ (answer : Answer Said). record { transport = t; answer = answer }) read ∙ sym (ap (λ (a : Answer Unit). handedBy t a (movedBy run (length all))) e),
-    sym (ap (λ (a : Answer Unit). newOr a (over (flat all) out) out) e),
+    sym (ap (λ (a : Answer Unit). given (λ u. over (flat all) out) a out) e),
   )
 
   accepts : (r : CueAnswer) (words : List ℕ) → test ≡ accepted tt → readCues r ≡ movedBy run (length all) → words ≡ over (flat all) out → Answers r words
   accepts r words e is left =
-      (is ∙ sym (ap (λ (a : Answer Unit). handedBy t a (movedBy run (length all))) e), left ∙ sym (ap (λ (a : Answer Unit). newOr a (over (flat all) out) out) e))
+      (is ∙ sym (ap (λ (a : Answer Unit). handedBy t a (movedBy run (length all))) e), left ∙ sym (ap (λ (a : Answer Unit). given (λ u. over (flat all) out) a out) e))
 
   -- ---- 12
 

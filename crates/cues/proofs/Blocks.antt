@@ -6,7 +6,7 @@ use Prim.Native.Nat.{ℕ, _+_, _-_, _≤_, _^_}
 use native.Mathlib.Nat.{add-zero}
 use native.Mathlib.Omega.{arith}
 use lib.ListN.{length, drop}
-use Rattle.numbers.specs.Answers.{Answer, accepted, refused}
+use Rattle.numbers.specs.Answers.{Answer, accepted, refused, given, over}
 use Rattle.numbers.proofs.Laws.{and-left, and-right}
 use Rattle.meter.specs.Fits.{isAccepted}
 use Rattle.transport.specs.declared.Transport.{Transport}
@@ -16,7 +16,6 @@ use Rattle.transport.specs.Advances.{advanced}
 use Rattle.transport.specs.Promise.{Composes}
 use Rattle.transport.proofs.Laws.{advanced-sound, advanced-low, composes}
 use Rattle.cues.specs.Sounding.{Cue, cues, later}
-use Rattle.lines.specs.Lines.{newOr, over}
 use Rattle.cues.specs.CueCall.{cueTest, Said, movedBy, handedBy, flat}
 use Rattle.cues.specs.Promise.{Block, said, pairsOf, answerTo, saidTo, next, cuesIn}
 use Rattle.cues.specs.Promise.{allAccepted, joinedCues, lastTransport, someWraps, someFinishes, framesIn, ByBlocks, StaysSound}
@@ -52,7 +51,7 @@ module _ (lines : List ℕ) where
     says-by : (a : Answer Unit) → test ≡ a → isAccepted (handedBy t a (movedBy (advanced t (block .frames)) (length (cues lines t (block .frames)))) .answer) ≡ true → Says t block
     says-by (accepted u) e h = record {
       cues-are =
-          ap (λ (a : Answer Unit). pairsOf (said (handedBy t a moved .answer) .count) (newOr a words (block .out))) e
+          ap (λ (a : Answer Unit). pairsOf (said (handedBy t a moved .answer) .count) (given (λ u. words) a (block .out))) e
           ∙ read-back (cues lines t (block .frames)) (drop (length (flat (cues lines t (block .frames)))) (block .out));
       next-is = ap (λ (a : Answer Unit). handedBy t a moved .transport) e;
       wraps-is = ap (λ (a : Answer Unit). said (handedBy t a moved .answer) .wrapped) e;

@@ -10,7 +10,8 @@ use lib.Dec.{leb}
 use lib.ListN.{length, drop, length-append}
 use lib.Seq.{sets, sets-eq, length-sets}
 use Rattle.numbers.proofs.Laws.{sets-append}
-use Rattle.lines.specs.Lines.{ascends, between, over}
+use Rattle.numbers.specs.Answers.{over}
+use Rattle.lines.specs.Lines.{ascends, between}
 use Rattle.lines.specs.Places.{Splits}
 use Rattle.cues.specs.declared.plan.Plan.{Plan}
 use Rattle.cues.specs.declared.count.Counted.{Counted}

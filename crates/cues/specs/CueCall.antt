@@ -4,13 +4,13 @@ use mathlib.Core.List.{List, [], _∷_}
 use Prim.Native.Nat.{ℕ, _+_, _/_, _-_, _^_}
 use lib.Dec.{leb}
 use lib.ListN.{length}
-use Rattle.numbers.specs.Answers.{Answer, accepted, refused}
+use Rattle.numbers.specs.Answers.{Answer, accepted, refused, given, over}
 use Rattle.transport.specs.declared.playhead.Run.{Run}
 use Rattle.transport.specs.declared.Transport.{Transport}
 use Rattle.transport.specs.Transports.{sound, playing}
 use Rattle.transport.specs.Changes.{Handed}
 use Rattle.transport.specs.Advances.{advanced}
-use Rattle.lines.specs.Lines.{linesAnswer, newOr, over}
+use Rattle.lines.specs.Lines.{linesAnswer}
 use Rattle.cues.specs.Sounding.{Cue, cues}
 
 -- ---- refusals
@@ -63,4 +63,4 @@ flat (cue ∷ rest) = cue .0 ∷ cue .1 ∷ flat rest
 
 -- a refusal changes no word
 abbrev pub cueAfter : Transport → List ℕ → ℕ → List ℕ → List ℕ
-cueAfter t lines frames out = newOr (cueTest t lines frames out) (over (flat (cues lines t frames)) out) out
+cueAfter t lines frames out = given (λ u. over (flat (cues lines t frames)) out) (cueTest t lines frames out) out

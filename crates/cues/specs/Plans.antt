@@ -7,7 +7,8 @@ use lib.Dec.{leb, ltb}
 use lib.ListN.{length, getD}
 use Rattle.transport.specs.declared.Transport.{Transport}
 use Rattle.transport.specs.Transports.{sound, playing}
-use Rattle.lines.specs.Lines.{ascends, over}
+use Rattle.numbers.specs.Answers.{over}
+use Rattle.lines.specs.Lines.{ascends}
 use Rattle.cues.specs.declared.plan.Plan.{Plan}
 use Rattle.cues.specs.declared.count.Counted.{Counted}
 use Rattle.cues.specs.declared.count.Counted.the-variants.{Fits, TooMany}

@@ -12,7 +12,7 @@ use lib.Signed.{ltZ, leZ}
 use lib.Ieee.{Float, le}
 use lib.Ieee.Scale.{finite}
 use lib.ListN.{length}
-use Rattle.numbers.specs.Answers.{Answer, accepted}
+use Rattle.numbers.specs.Answers.{Answer, accepted, given}
 use Rattle.numbers.specs.Signs.{inI64}
 use Rattle.numbers.proofs.Laws.{by-order, both, and-right}
 use Rattle.rounding.specs.Floats.{float0}
@@ -34,7 +34,7 @@ use Rattle.tempo.proofs.Laws.{seconds-at-up}
 use Rattle.transport.specs.declared.Transport.{Transport}
 use Rattle.timeline.specs.Places.{floatOf, secondsOf, frameAtBar}
 use Rattle.timeline.proofs.Laws.{bar-frame}
-use Rattle.lines.specs.Lines.{ascendsFrom, ascends, linesAnswer, newOr}
+use Rattle.lines.specs.Lines.{ascendsFrom, ascends, linesAnswer}
 use Rattle.filler.specs.Fills.{entries, barLines}
 use Rattle.filler.specs.Promise.{InOrder, LinesPromise}
 use Rattle.filler.proofs.Filling.{entries-length}
@@ -167,6 +167,6 @@ pub lines-keep : LinesPromise
 lines-keep t words nums dens tempos out a o =
     let known = accepted-known t words nums dens tempos out a in
     let line = frameAtBar t (pointsOf words) (tempoPoints nums dens tempos) in
-    ap (λ (x : Answer Unit). linesAnswer (newOr x (barLines t (pointsOf words) (tempoPoints nums dens tempos) (length out)) out)) a
+    ap (λ (x : Answer Unit). linesAnswer (given (λ u. barLines t (pointsOf words) (tempoPoints nums dens tempos) (length out)) x out)) a
     ∙ fine (barLines t (pointsOf words) (tempoPoints nums dens tempos) (length out)) (subst (λ (k : ℕ). k ≤ 65536) (sym (entries-length line 0 (length out))) (known .1))
     (entries-ascend line (length out) (line-up t words nums dens tempos (length out) o (known .0) (known .1)) (length out) 0 0 (omega arith) (λ h. omega arith))

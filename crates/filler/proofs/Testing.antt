@@ -8,7 +8,7 @@ use lib.Dec.{leb}
 use lib.IntN.{ℤ}
 use lib.ListN.{length}
 use borrow.Author.Tests.{leb-true}
-use Rattle.numbers.specs.Answers.{Answer, accepted}
+use Rattle.numbers.specs.Answers.{Answer, accepted, given}
 use Rattle.meter.specs.Meters.{pointsOf}
 use Rattle.tempo.specs.declared.MapTest.{MapTest}
 use Rattle.tempo.specs.declared.MapTest.the-variants.{Sound, TooLong}
@@ -20,7 +20,6 @@ use Rattle.timeline.specs.declared.tests.Test.the-variants.{Sound as Passed, Re
 use Rattle.timeline.specs.Places.{Parallel}
 use Rattle.timeline.specs.Tests.{wordsTest, worse, mapsTest, testOf}
 use Rattle.timeline.proofs.Laws.{ifPassed, by-test, passes, both-sound, parallel}
-use Rattle.lines.specs.Lines.{newOr}
 use Rattle.filler.specs.Fills.{barLines, linesTest, fillAnswer, fillAfter}
 
 short : (n : ℕ) → linesTest n ≡ Sound → n ≤ 65536
@@ -56,8 +55,8 @@ module _ (t : Transport) (words : List ℕ) (nums : List ℤ) (dens tempos out :
     pub answered : ifPassed test done ≡ fillAnswer t words nums dens tempos out
     answered = by-test t finding done e refl
 
-    pub after : newOr (ifPassed test done) (barLines t (pointsOf words) (tempoPoints nums dens tempos) (length out)) out ≡ fillAfter t words nums dens tempos out
-    after = ap (λ (x : Answer Unit). newOr x (barLines t (pointsOf words) (tempoPoints nums dens tempos) (length out)) out) answered
+    pub after : given (λ u. barLines t (pointsOf words) (tempoPoints nums dens tempos) (length out)) (ifPassed test done) out ≡ fillAfter t words nums dens tempos out
+    after = ap (λ (x : Answer Unit). given (λ u. barLines t (pointsOf words) (tempoPoints nums dens tempos) (length out)) x out) answered
 
   -- the same of a call that is accepted
   pub accepted-known : fillAnswer t words nums dens tempos out ≡ done → (mapTest nums dens tempos ≡ Sound) × (length out ≤ 65536)

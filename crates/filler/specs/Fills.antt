@@ -5,7 +5,7 @@ use Prim.Native.Nat.{ℕ, zero, suc}
 use lib.Dec.{leb}
 use lib.IntN.{ℤ}
 use lib.ListN.{length}
-use Rattle.numbers.specs.Answers.{Answer, accepted, refused}
+use Rattle.numbers.specs.Answers.{Answer, accepted, refused, given}
 use Rattle.meter.specs.declared.MeterPoint.{MeterPoint}
 use Rattle.meter.specs.Meters.{pointsOf}
 use Rattle.tempo.specs.declared.MapTest.{MapTest}
@@ -14,7 +14,6 @@ use Rattle.tempo.specs.Tempos.{TempoPoint, tempoPoints}
 use Rattle.transport.specs.declared.Transport.{Transport}
 use Rattle.timeline.specs.Places.{frameAtBar}
 use Rattle.timeline.specs.Tests.{worse, mapsTest, ifTested}
-use Rattle.lines.specs.Lines.{newOr}
 
 -- n entries, the first with what is asked of bar k
 unfoldable pub entries : (ℕ → ℕ) → ℕ → ℕ → List ℕ
@@ -36,4 +35,4 @@ fillAnswer t words nums dens tempos out = ifTested t (worse (linesTest (length o
 -- the new words of a call that is accepted, and the old ones of a call that is refused
 abbrev pub fillAfter : Transport → List ℕ → List ℤ → List ℕ → List ℕ → List ℕ → List ℕ
 fillAfter t words nums dens tempos out =
-    newOr (fillAnswer t words nums dens tempos out) (barLines t (pointsOf words) (tempoPoints nums dens tempos) (length out)) out
+    given (λ u. barLines t (pointsOf words) (tempoPoints nums dens tempos) (length out)) (fillAnswer t words nums dens tempos out) out

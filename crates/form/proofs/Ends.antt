@@ -86,7 +86,7 @@ module _ (score : Score) (meter : List ℕ) (nums : List ℤ) (dens bits : List 
   answer-front = rw (sym p, sym q) (rw (twice (3 * score .meters) meter, twice (score .tempos) nums, twice (score .tempos) dens, twice (score .tempos) bits))
 
   pub bytes-front : (old : List ℕ) → writtenInto score meter nums dens bits old ≡ writtenInto score (take (3 * m) meter) (take t nums) (take t dens) (take t bits) old
-  unfolding writtenInto
+  unfolding writeAnswer writtenInto
   bytes-front old = rw (sym p, sym q) (rw (twice (3 * score .meters) meter, twice (score .tempos) nums, twice (score .tempos) dens, twice (score .tempos) bits))
 
 -- ---- the answer

@@ -9,9 +9,9 @@ use borrow.Author.Tests.{leb-true, lt-leb, le-leb, lt-ltb, le-ltb}
 use lib.Dec.{leb}
 use lib.ListN.{length, take, drop}
 use lib.Seq.{take-nil, drop-nil}
-use Rattle.numbers.specs.Answers.{Answer, accepted, refused}
+use Rattle.numbers.specs.Answers.{Answer, accepted, refused, given}
 use Rattle.numbers.proofs.Laws.{by-order}
-use Rattle.lines.specs.Lines.{ascends, linesAnswer, between, newOr, rangeOf}
+use Rattle.lines.specs.Lines.{ascends, linesAnswer, between, rangeOf}
 use Rattle.lines.specs.Places.{Splits}
 
 -- ---- a place, without the first line
@@ -88,5 +88,5 @@ fine-lines lines = go (leb (length lines) 65536) refl (ascends lines)
     go false e q h = absurd (let z : _≡_ {A = ℕ} 0 1 = cc in omega arith)
 
 -- the range where the test is known
-pub range-by : (start end : ℕ) (lines : List ℕ) (test : Answer Unit) → test ≡ linesAnswer lines → newOr test (between start end lines) [] ≡ rangeOf start end lines
-range-by start end lines test e = ap (λ (a : Answer Unit). newOr a (between start end lines) []) e
+pub range-by : (start end : ℕ) (lines : List ℕ) (test : Answer Unit) → test ≡ linesAnswer lines → given (λ u. between start end lines) test [] ≡ rangeOf start end lines
+range-by start end lines test e = ap (λ (a : Answer Unit). given (λ u. between start end lines) a []) e

@@ -1,10 +1,10 @@
 -- Bar lines: when a list of them is refused, and those of a range.
 use mathlib.Core.Bool.{Bool, true, false, cond, _&&_}
-use mathlib.Core.List.{List, [], _∷_, _++_}
+use mathlib.Core.List.{List, [], _∷_}
 use Prim.Native.Nat.{ℕ}
 use lib.Dec.{leb, ltb}
-use lib.ListN.{length, drop}
-use Rattle.numbers.specs.Answers.{Answer, accepted, refused}
+use lib.ListN.{length}
+use Rattle.numbers.specs.Answers.{Answer, accepted, refused, given}
 
 -- no line is less than the one before, and the first is not less than `low`
 unfoldable pub ascendsFrom : ℕ → List ℕ → Bool
@@ -26,15 +26,6 @@ unfoldable pub between : ℕ → ℕ → List ℕ → List ℕ
 between start end [] = []
 between start end (line ∷ rest) = elim (leb start line && ltb line end) [ true ↦ line ∷ between start end rest | false ↦ between start end rest ]
 
--- what an accepted call gives, and what stands where it is refused
-abbrev pub newOr : Answer Unit → List ℕ → List ℕ → List ℕ
-newOr (accepted u) new old = new
-newOr (refused number facts) new old = old
-
--- words written over a list from its start; later words stay
-abbrev pub over : List ℕ → List ℕ → List ℕ
-over words out = words ++ drop (length words) out
-
 -- no lines of a list that is refused
 abbrev pub rangeOf : ℕ → ℕ → List ℕ → List ℕ
-rangeOf start end lines = newOr (linesAnswer lines) (between start end lines) []
+rangeOf start end lines = given (λ u. between start end lines) (linesAnswer lines) []

@@ -1,6 +1,7 @@
 -- What a call answers, in the numbers of document 01. Every crate reads its enums through this.
 use Prim.Native.Nat.{ℕ}
-use mathlib.Core.List.{List}
+use mathlib.Core.List.{List, _++_}
+use lib.ListN.{length, drop}
 
 -- accepted, with its values; or refused, by a number and the facts that go with it (none but for 7: what, place, value)
 pub data Answer (A : Type 0) : Type 0 where
@@ -11,3 +12,12 @@ pub data Answer (A : Type 0) : Type 0 where
 abbrev pub number : {A : Type 0} → Answer A → ℕ
 number (accepted a) = 0
 number (refused n facts) = n
+
+-- what an accepted call gives, and what stands where it is refused
+abbrev pub given : {A B : Type 0} → (A → B) → Answer A → B → B
+given part (accepted a) old = part a
+given part (refused number facts) old = old
+
+-- what is written over a list from its start; later words stay
+abbrev pub over : {A : Type 0} → List A → List A → List A
+over new old = new ++ drop (length new) old

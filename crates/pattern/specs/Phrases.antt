@@ -4,7 +4,7 @@ use mathlib.Core.List.{List, [], _++_}
 use Prim.Native.Nat.{ℕ, _*_, _/_}
 use lib.Dec.{leb, eqb}
 use lib.ListN.{length, drop}
-use Rattle.numbers.specs.Answers.{Answer, accepted, refused}
+use Rattle.numbers.specs.Answers.{Answer, accepted, refused, given}
 use Rattle.notes.specs.declared.Note.{Note}
 use Rattle.notes.specs.Notes.{wordsOf, oneNumber, twoNumber}
 use Rattle.pattern.specs.declared.Pattern.{Pattern}
@@ -38,8 +38,7 @@ answered (refused number facts) out = refused number facts
 
 -- the words afterwards: the notes first, and later words kept; a refusal changes none
 abbrev pub written : Answer Phrase → List ℕ → List ℕ
-written (accepted made) out = cond (roomFor made out) (wordsOf (made .notes) ++ drop (4 * length (made .notes)) out) out
-written (refused number facts) out = out
+written answer out = given (λ made. cond (roomFor made out) (wordsOf (made .notes) ++ drop (4 * length (made .notes)) out) out) answer out
 
 -- ---- the words that are given
 

@@ -9,8 +9,8 @@ use lib.IntN.{ℤ}
 use lib.ListN.{length}
 use Rattle.numbers.specs.Answers.{accepted, refused}
 use Rattle.tempo.specs.Answers.{SoundMap}
-use Rattle.problems.specs.Problems.{Problem, listed, tempoProblems, written}
-use Rattle.problems.specs.Answers.{counted}
+use Rattle.problems.specs.Problems.{Problem, listed, tempoProblems}
+use Rattle.problems.specs.Answers.{counted, after}
 use Rattle.problems.specs.Passes.{Ready, put}
 use Rattle.problems.proofs.Listing.{listed-length}
 use Rattle.problems.proofs.Passing.{writes}
@@ -23,10 +23,10 @@ ready writing out problems few room = record { fits = omega arith; room = λ w. 
 -- ---- there is no room, or there is
 
 module _ (problems : List Problem) (out : List ℕ) where
-  pub too-many : length out / 3 < length problems → (refused 8 [] ≡ counted problems out) × (out ≡ written problems out)
+  pub too-many : length out / 3 < length problems → (refused 8 [] ≡ counted problems out) × (out ≡ after problems (counted problems out) out)
   too-many over = let e = lt-leb (length problems) (length out / 3) over in (rw e, rw e)
 
-  pub enough : length problems ≤ length out / 3 → (accepted (length problems) ≡ counted problems out) × (put true out 0 problems ≡ written problems out)
+  pub enough : length problems ≤ length out / 3 → (accepted (length problems) ≡ counted problems out) × (put true out 0 problems ≡ after problems (counted problems out) out)
   enough fits = let e = le-leb (length problems) (length out / 3) fits in (rw e, rw e (writes out problems fits))
 
 -- ---- a tempo map

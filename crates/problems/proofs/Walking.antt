@@ -14,8 +14,8 @@ use Rattle.numbers.specs.Answers.{Answer, accepted, refused}
 use Rattle.numbers.proofs.Laws.{never, both}
 use Rattle.meter.specs.declared.MeterPoint.{MeterPoint}
 use Rattle.problems.specs.declared.walk.State.{State}
-use Rattle.problems.specs.Problems.{Problem, meterPoints, meterProblems, written}
-use Rattle.problems.specs.Answers.{counted, meterAnswer, meterAfter}
+use Rattle.problems.specs.Problems.{Problem, meterPoints, meterProblems}
+use Rattle.problems.specs.Answers.{counted, after, meterAnswer, meterAfter}
 use Rattle.problems.specs.Passes.{Passed, Walks, put, pointOf, meterFrom, begun, restarts, here, stepped, finished}
 use Rattle.problems.proofs.Calls.{ready, too-many, enough}
 use Rattle.problems.proofs.Passing.{Passing, begin, ready-next, on, done, passed-none}
@@ -178,7 +178,7 @@ module _ (points : List MeterPoint) (out : List ℕ) where
       count-is : s .count ≡ length whole
       count-is = omega (arith, all-passed .counted)
 
-      told : {answer : Answer ℕ} → cond (leb (s .count) (s .room)) (accepted (s .count)) (refused 8 []) ≡ answer → (answer ≡ counted whole out) × (words ≡ written whole out) → Ends
+      told : {answer : Answer ℕ} → cond (leb (s .count) (s .room)) (accepted (s .count)) (refused 8 []) ≡ answer → (answer ≡ counted whole out) × (words ≡ after whole (counted whole out) out) → Ends
       told e said = (rw (le-leb (s .n) 65536 (u .short), le-leb (length points) 65536 few) (e ∙ said .0), rw (le-leb (length points) 65536 few) (said .1))
         where
           few : length points ≤ 65536
@@ -187,7 +187,7 @@ module _ (points : List MeterPoint) (out : List ℕ) where
       fits-told : length whole ≤ s .room → words ≡ put true out 0 whole → Ends
       fits-told fits wrote = told (rw (le-leb (s .count) (s .room) (omega (arith, count-is))) (ap accepted count-is)) (fit .0, wrote ∙ fit .1)
         where
-          fit : (accepted (length whole) ≡ counted whole out) × (put true out 0 whole ≡ written whole out)
+          fit : (accepted (length whole) ≡ counted whole out) × (put true out 0 whole ≡ after whole (counted whole out) out)
           fit = enough whole out (omega (arith, stage .room-is))
 
       by-pass : (writing : Bool) → s .writing ≡ writing → Ends

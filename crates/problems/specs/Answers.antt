@@ -1,20 +1,22 @@
 -- The calls: 3, 4, 1 and 8 are tested in this order, all before the first word is written.
 use mathlib.Core.Bool.{cond}
-use mathlib.Core.List.{List, []}
-use Prim.Native.Nat.{ℕ}
+use mathlib.Core.List.{List, [], _++_}
+use Prim.Native.Nat.{ℕ, _*_}
 use lib.Dec.{leb}
 use lib.IntN.{ℤ}
-use lib.ListN.{length}
-use Rattle.numbers.specs.Answers.{Answer, accepted, refused}
+use lib.ListN.{length, drop}
+use Rattle.numbers.specs.Answers.{Answer, accepted, refused, given}
 use Rattle.meter.specs.declared.MeterPoint.{MeterPoint}
-use Rattle.tempo.specs.declared.MapTest.{MapTest}
-use Rattle.tempo.specs.declared.MapTest.the-variants.{Sound, Uneven, TooLong, NotBeat}
 use Rattle.tempo.specs.Answers.{mapTest, ifSound}
-use Rattle.problems.specs.Problems.{Problem, meterProblems, listed, tempoProblems, roomFor, written}
+use Rattle.problems.specs.Problems.{Problem, meterProblems, listed, tempoProblems, flat, roomFor}
 
 -- the count of the problems; 8 where there is no room for them
 abbrev pub counted : List Problem → List ℕ → Answer ℕ
 counted problems out = cond (roomFor problems out) (accepted (length problems)) (refused 8 [])
+
+-- the words afterwards: the records first, and later words kept; a refusal changes none
+abbrev pub after : List Problem → Answer ℕ → List ℕ → List ℕ
+after problems answer out = given (λ count. flat problems ++ drop (3 * length problems) out) answer out
 
 -- ---- a meter map: 4, 8
 
@@ -22,19 +24,12 @@ abbrev pub meterAnswer : List MeterPoint → List ℕ → Answer ℕ
 meterAnswer map out = cond (leb (length map) 65536) (counted (meterProblems map) out) (refused 4 [])
 
 abbrev pub meterAfter : List MeterPoint → List ℕ → List ℕ
-meterAfter map out = cond (leb (length map) 65536) (written (meterProblems map) out) out
+meterAfter map out = after (meterProblems map) (meterAnswer map out) out
 
 -- ---- a tempo map: 3, 4, 1, 8
-
--- the words that a call leaves for a map that is sound, and for one that is not: a refusal changes none
-abbrev pub afterTest : MapTest → List ℕ → List ℕ → List ℕ
-afterTest Sound words out = words
-afterTest Uneven words out = out
-afterTest TooLong words out = out
-afterTest NotBeat words out = out
 
 abbrev pub tempoAnswer : List ℤ → List ℕ → List ℕ → List ℕ → Answer ℕ
 tempoAnswer nums dens tempos out = ifSound (mapTest nums dens tempos) (counted (tempoProblems (listed nums dens tempos)) out)
 
 abbrev pub tempoAfter : List ℤ → List ℕ → List ℕ → List ℕ → List ℕ
-tempoAfter nums dens tempos out = afterTest (mapTest nums dens tempos) (written (tempoProblems (listed nums dens tempos)) out) out
+tempoAfter nums dens tempos out = after (tempoProblems (listed nums dens tempos)) (tempoAnswer nums dens tempos out) out

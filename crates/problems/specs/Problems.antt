@@ -1,11 +1,11 @@
 -- The problems of a meter map and of a tempo map, in the order of document 01.
 use mathlib.Core.Bool.{Bool, false, not, cond, _&&_}
 use mathlib.Core.List.{List, [], _∷_, _++_}
-use Prim.Native.Nat.{ℕ, suc, _*_, _/_}
+use Prim.Native.Nat.{ℕ, suc, _/_}
 use lib.Dec.{leb, ltb, eqb}
 use lib.IntN.{ℤ, natAbs}
 use lib.Ieee.{Float, inf, lt, binary32, ofBits}
-use lib.ListN.{length, drop}
+use lib.ListN.{length}
 use Rattle.rounding.specs.Floats.{float0}
 use Rattle.beats.specs.declared.Beat.{Beat}
 use Rattle.beats.specs.Sums.{belowBeat}
@@ -97,7 +97,3 @@ flat (problem ∷ rest) = problem .code ∷ problem .index ∷ problem .value �
 -- there is room for the records, in whole records
 abbrev pub roomFor : List Problem → List ℕ → Bool
 roomFor problems out = leb (length problems) (length out / 3)
-
--- the records first, and later words kept; nothing is written where there is no room
-abbrev pub written : List Problem → List ℕ → List ℕ
-written problems out = cond (roomFor problems out) (flat problems ++ drop (3 * length problems) out) out

@@ -8,8 +8,8 @@ ghost use Prim.Native.Nat.{_<_};
 ghost use lib.Ieee.{binary32, ofBits};
 ghost use lib.ListN.{length};
 ghost use Rattle.tempo.specs.Answers.{SoundMap};
-ghost use Rattle.problems.specs.Problems.{soundTempo, tempoBits, isZero, listed, tempoProblems, written};
-ghost use Rattle.problems.specs.Answers.{counted};
+ghost use Rattle.problems.specs.Problems.{soundTempo, tempoBits, isZero, listed, tempoProblems};
+ghost use Rattle.problems.specs.Answers.{counted, after};
 ghost use Rattle.problems.specs.Readings.{readProblems};
 ghost use Rattle.problems.specs.Passes.{Ready, Passed, listedAt, beatAt, tempoFirst, tempoLater, tempoAt};
 
@@ -129,7 +129,7 @@ fn pass(nums: &[i64], dens: &[u32], tempos: &[u32], out: &mut [u32], writing: bo
 // room for them.
 pub fn list(nums: &[i64], dens: &[u32], tempos: &[u32], out: &mut [u32]) -> ProblemsAnswer
     requires { ⌜ SoundMap (now nums) (now dens) (now tempos) ⌝ }
-    ensures { λ r. ⌜ (readProblems r ≡ counted (tempoProblems (listed (now (nums .entry)) (now (dens .entry)) (now (tempos .entry)))) (now (out .entry))) × (now (out .exit) ≡ written (tempoProblems (listed (now (nums .entry)) (now (dens .entry)) (now (tempos .entry)))) (now (out .entry))) ⌝ }
+    ensures { λ r. ⌜ (readProblems r ≡ counted (tempoProblems (listed (now (nums .entry)) (now (dens .entry)) (now (tempos .entry)))) (now (out .entry))) × (now (out .exit) ≡ after (tempoProblems (listed (now (nums .entry)) (now (dens .entry)) (now (tempos .entry)))) (counted (tempoProblems (listed (now (nums .entry)) (now (dens .entry)) (now (tempos .entry)))) (now (out .entry))) (now (out .entry))) ⌝ }
 {
     let count = pass(nums, dens, tempos, out, false);
     if count as usize > out.len() / 3 {

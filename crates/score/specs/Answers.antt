@@ -1,9 +1,8 @@
 -- Reading a score file: refused by 13 alone, with nothing changed; else what it says, its points at the front of the lent lists.
 use mathlib.Core.Bool.{cond}
-use mathlib.Core.List.{List, [], _∷_, _++_}
+use mathlib.Core.List.{List, [], _∷_}
 use Prim.Native.Nat.{ℕ}
-use lib.ListN.{length, drop}
-use Rattle.numbers.specs.Answers.{Answer, accepted, refused}
+use Rattle.numbers.specs.Answers.{Answer, accepted, refused, over}
 use Rattle.score.specs.declared.Score.{Score}
 use Rattle.score.specs.Format.{isScore, scoreOf}
 
@@ -16,4 +15,4 @@ refusalText = 114 ∷ 101 ∷ 102 ∷ 117 ∷ 115 ∷ 101 ∷ 100 ∷ 32 ∷ 49 
 
 -- a lent list that was `old`, after `new` was read into it: later elements stay
 unfoldable pub after : {A : Type 0} → List ℕ → List A → List A → List A
-after bytes new old = cond (isScore bytes) (new ++ drop (length new) old) old
+after bytes new old = cond (isScore bytes) (over new old) old

@@ -30,5 +30,5 @@ module _ (score : Score) (meter : List ℕ) (nums : List ℤ) (dens bits : List 
 
   -- the file stands at the front of the output
   pub file-in : (bytes : ℕ) → WrittenFile bytes → (old : List ℕ) → writtenInto score meter nums dens bits old ≡ fileFrom score meter nums dens bits ++ drop bytes old
-  unfolding writtenInto
+  unfolding writeAnswer writtenInto
   file-in bytes w old = simp (w .few, w .lowest) (ap (λ (k : ℕ). fileFrom score meter nums dens bits ++ drop k old) (sym (w .long)))

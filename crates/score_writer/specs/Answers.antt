@@ -6,7 +6,7 @@ use Prim.Native.Nat.{ℕ, _*_}
 use lib.Dec.{leb}
 use lib.IntN.{ℤ}
 use lib.ListN.{length, take, drop}
-use Rattle.numbers.specs.Answers.{Answer, accepted, refused}
+use Rattle.numbers.specs.Answers.{Answer, accepted, refused, given}
 use Rattle.meter.specs.Meters.{soundPickup}
 use Rattle.tempo.specs.Answers.{allBeats}
 use Rattle.score.specs.declared.Score.{Score}
@@ -31,4 +31,4 @@ module _ (score : Score) (meter : List ℕ) (nums : List ℤ) (dens bits : List 
 
   -- the bytes that were `old`, afterwards: later bytes stay
   unfoldable pub writtenInto : List ℕ → List ℕ
-  writtenInto old = cond (fewPoints score && inLowestTerms) (fileFrom ++ drop (length fileFrom) old) old
+  writtenInto old = given (λ size. fileFrom ++ drop size old) writeAnswer old

@@ -15,16 +15,17 @@ use Rattle.numbers.proofs.Laws.{and-left, and-right, cases}
 use Rattle.beats.specs.declared.Beat.{Beat}
 use Rattle.beats.specs.Beats.{isBeat}
 use Rattle.text.specs.Texts.{digitsBy, decimal, signedText, beatText}
+use Rattle.splits.specs.Splits.{other, run}
+use Rattle.splits.proofs.Laws.{run-nil, run-append, at-mark, before-mark}
 use Rattle.spelling.specs.declared.NumberAnswer.the-variants as N
 use Rattle.spelling.specs.declared.BeatWord.the-variants as B
 use Rattle.spelling.specs.declared.TempoWord.the-variants as T
 use Rattle.spelling.specs.declared.digits.Digits.{Digits}
 use Rattle.spelling.specs.declared.digits.Digits.the-variants.{Number}
 use Rattle.spelling.specs.declared.fractions.Signed.the-variants as S
-use Rattle.spelling.specs.Words.{digitOf, allDigits, numberBy, someDigits, placeOf, asNumber, numberOf, signedBy, signedOf, denominatorOf, beatOf}
+use Rattle.spelling.specs.Words.{digitOf, allDigits, numberBy, someDigits, asNumber, numberOf, signedBy, signedOf, denominatorOf, beatOf}
 use Rattle.spelling.specs.Words.{quotient, tempoBy, pointTempo, decimalTempo, isBits, asBits, tempoOf}
 use Rattle.spelling.proofs.Reading.{before-0, digit-0, behind-f, one-more, none-left, all-digits, some-word, carried, all-append, number-append}
-use Rattle.spelling.proofs.Marks.{here, later, none}
 use Rattle.spelling.proofs.Tempos.{bits-is, by-x, by-bits, by-digits}
 use Rattle.spelling.proofs.Ratios.{number-is, minus, plus, whole, beat-is}
 
@@ -69,32 +70,20 @@ number-back n h = sym (number-is (decimal n)) ∙ ap asNumber (some-back 4294967
 
 -- ---- no mark stands among digits
 
--- a mark that is not in the front is sought behind it
-place-append : (mark : ℕ) (front back : List ℕ) → placeOf mark front ≡ length front → placeOf mark (front ++ back) ≡ length front + placeOf mark back
-place-append mark [] back e = omega arith
-place-append mark (byte ∷ front) back e = go (eqb byte mark) refl (place-append mark front back)
-  where
-    go : (t : Bool) → eqb byte mark ≡ t → (placeOf mark front ≡ length front → placeOf mark (front ++ back) ≡ length front + placeOf mark back)
-        → placeOf mark (byte ∷ (front ++ back)) ≡ suc (length front) + placeOf mark back
-    go true q r = let z : ⊥ = omega (arith, here mark byte front (eqb-true byte mark q)) in absurd z
-    go false q r =
-        let rest = r (omega (arith, later mark byte front (eqb-false byte mark q))) in
-        omega (arith, later mark byte (front ++ back) (eqb-false byte mark q))
-
 -- a byte that is no digit is not among digits
-no-mark : (base mark : ℕ) → base ≤ digitOf mark → (word : List ℕ) → allDigits base word ≡ true → placeOf mark word ≡ length word
+no-mark : (base mark : ℕ) → base ≤ digitOf mark → (word : List ℕ) → allDigits base word ≡ true → run (other mark) word ≡ length word
 unfolding allDigits
-no-mark base mark h [] e = none mark
+no-mark base mark h [] e = run-nil (other mark)
 no-mark base mark h (byte ∷ word) e =
     let small = ltb-true (digitOf byte) base (and-left (ltb (digitOf byte) base) (allDigits base word) e) in
-    later mark byte word (λ q. omega (arith, ap digitOf q)) ∙ ap suc (no-mark base mark h word (and-right (ltb (digitOf byte) base) (allDigits base word) e))
+    before-mark mark byte word (λ q. omega (arith, ap digitOf q)) ∙ ap suc (no-mark base mark h word (and-right (ltb (digitOf byte) base) (allDigits base word) e))
 
-not-in : (mark n : ℕ) → mark < 48 → placeOf mark (decimal n) ≡ length (decimal n)
+not-in : (mark n : ℕ) → mark < 48 → run (other mark) (decimal n) ≡ length (decimal n)
 not-in mark n h = no-mark 10 mark (omega (arith, before-0 mark h)) (decimal n) (all-digits 10 n 0 (decimal n) n (all-back n n (omega arith)))
 
-first-not : (mark : ℕ) (text : List ℕ) → placeOf mark text ≡ length text → (length text ≡ 0 → ⊥) → getD text 0 0 ≡ mark → ⊥
+first-not : (mark : ℕ) (text : List ℕ) → run (other mark) text ≡ length text → (length text ≡ 0 → ⊥) → getD text 0 0 ≡ mark → ⊥
 first-not mark [] e n q = n refl
-first-not mark (byte ∷ text) e n q = omega (arith, here mark byte text q)
+first-not mark (byte ∷ text) e n q = omega (arith, at-mark mark byte text q)
 
 -- ---- signed numbers
 
@@ -109,10 +98,10 @@ signed-back (negsuc n) f =
     sym (minus (45 ∷ decimal (suc n)) refl)
     ∙ ap (signedBy true) (some-back 9223372036854775808 (suc n) (omega (arith, f .sfits))) ∙ ap (λ (k : ℕ). S.Number (negsuc k)) e
 
-no-slash : (z : ℤ) → placeOf 47 (signedText z) ≡ length (signedText z)
+no-slash : (z : ℤ) → run (other 47) (signedText z) ≡ length (signedText z)
 unfolding signedText
 no-slash (pos n) = not-in 47 n (omega arith)
-no-slash (negsuc n) = later 47 45 (decimal (suc n)) (λ q. omega arith) ∙ ap suc (not-in 47 (suc n) (omega arith))
+no-slash (negsuc n) = before-mark 47 45 (decimal (suc n)) (λ q. omega arith) ∙ ap suc (not-in 47 (suc n) (omega arith))
 
 -- ---- beats
 
@@ -128,11 +117,11 @@ behind-slash front back =
 
 module _ (b : Beat) (is : isBeat b ≡ true) (f : SFits w64 (b .num)) where
   -- a word whose numerator's text is followed by nothing or by a slash
-  read-back : (back : List ℕ) → placeOf 47 back ≡ 0 → N.Read (b .den) ≡ denominatorOf (signedText (b .num) ++ back) (length (signedText (b .num)))
+  read-back : (back : List ℕ) → run (other 47) back ≡ 0 → N.Read (b .den) ≡ denominatorOf (signedText (b .num) ++ back) (length (signedText (b .num)))
       → beatOf (signedText (b .num) ++ back) ≡ B.Read b
   read-back back e den =
       let num = signedText (b .num) in
-      let place : length num ≡ placeOf 47 (num ++ back) = omega (arith, place-append 47 num back (no-slash (b .num))) in
+      let place : length num ≡ run (other 47) (num ++ back) = omega (arith, run-append (other 47) num back (no-slash (b .num))) in
       let top = ap signedOf (take-at num back (length num) refl) ∙ signed-back (b .num) f in
       sym (beat-is (num ++ back) (length num) place (S.Number (b .num)) (N.Read (b .den)) (sym top) den)
       ∙ ap (λ (t : Bool). cond t (B.Read b) B.NotBeat) is
@@ -145,15 +134,15 @@ module _ (b : Beat) (is : isBeat b ≡ true) (f : SFits w64 (b .num)) where
       go : (t : Bool) → eqb (b .den) 1 ≡ t → beatOf (signedText (b .num) ++ cond t [] (47 ∷ decimal (b .den))) ≡ B.Read b
       go true e =
           let num = signedText (b .num) in
-          read-back [] (none 47) (ap N.Read (eqb-true (b .den) 1 e) ∙ whole (num ++ []) (length num) (omega (arith, length-append num [])))
+          read-back [] (run-nil (other 47)) (ap N.Read (eqb-true (b .den) 1 e) ∙ whole (num ++ []) (length num) (omega (arith, length-append num [])))
       go false e =
-          read-back (47 ∷ decimal (b .den)) (here 47 47 (decimal (b .den)) refl)
+          read-back (47 ∷ decimal (b .den)) (at-mark 47 47 (decimal (b .den)) refl)
           (sym (behind-slash (signedText (b .num)) (decimal (b .den)) ∙ number-back (b .den) h))
 
 -- ---- tempos
 
 -- a word without an x (byte 120) is not taken for bits
-not-bits : (word : List ℕ) → placeOf 120 word ≡ length word → isBits word ≡ false
+not-bits : (word : List ℕ) → run (other 120) word ≡ length word → isBits word ≡ false
 unfolding isBits
 not-bits [] e = refl
 not-bits (a ∷ []) e = refl
@@ -161,20 +150,20 @@ not-bits (a ∷ b ∷ rest) e = go (eqb b 120) refl
   where
     go : (t : Bool) → eqb b 120 ≡ t → (eqb (suc (suc (length rest))) 10 && (eqb a 48 && t)) ≡ false
     go true q =
-        let second = here 120 b rest (eqb-true b 120 q) in
-        let z : ⊥ = cases (eqb a 120) (λ t. omega (arith, here 120 a (b ∷ rest) (eqb-true a 120 t))) (λ t. omega (arith, later 120 a (b ∷ rest) (eqb-false a 120 t))) in
+        let second = at-mark 120 b rest (eqb-true b 120 q) in
+        let z : ⊥ = cases (eqb a 120) (λ t. omega (arith, at-mark 120 a (b ∷ rest) (eqb-true a 120 t))) (λ t. omega (arith, before-mark 120 a (b ∷ rest) (eqb-false a 120 t))) in
         absurd z
     go false q = simp and-false
 
-no-x : (word : List ℕ) → allDigits 10 word ≡ true → placeOf 120 word ≡ length word
+no-x : (word : List ℕ) → allDigits 10 word ≡ true → run (other 120) word ≡ length word
 no-x = no-mark 10 120 (omega (arith, behind-f 120 (omega arith)))
 
-no-point : (word : List ℕ) → allDigits 10 word ≡ true → placeOf 46 word ≡ length word
+no-point : (word : List ℕ) → allDigits 10 word ≡ true → run (other 46) word ≡ length word
 no-point = no-mark 10 46 (omega (arith, before-0 46 (omega arith)))
 
-no-x-around : (front back : List ℕ) → allDigits 10 front ≡ true → allDigits 10 back ≡ true → placeOf 120 (front ++ (46 ∷ back)) ≡ length (front ++ (46 ∷ back))
+no-x-around : (front back : List ℕ) → allDigits 10 front ≡ true → allDigits 10 back ≡ true → run (other 120) (front ++ (46 ∷ back)) ≡ length (front ++ (46 ∷ back))
 no-x-around front back f b =
-    omega (arith, place-append 120 front (46 ∷ back) (no-x front f), later 120 46 back (λ q. omega arith), no-x back b, length-append front (46 ∷ back))
+    omega (arith, run-append (other 120) front (46 ∷ back) (no-x front f), before-mark 120 46 back (λ q. omega arith), no-x back b, length-append front (46 ∷ back))
 
 -- digits without a point
 pub whole-tempo : (word : List ℕ) (n : ℕ) → (length word ≡ 0 → ⊥) → numberBy 10 16777215 0 word ≡ Number n → tempoOf word ≡ T.Read (quotient n 0)
@@ -182,7 +171,7 @@ unfolding decimalTempo
 whole-tempo word n some e =
     let all = all-digits 10 16777215 0 word n e in
     sym (by-digits word (not-bits word (no-x word all)))
-    ∙ simp (le-ltb (placeOf 46 word) (length word) (omega (arith, no-point word all))) (ap (tempoBy 0) (sym (some-word 16777215 word some) ∙ e))
+    ∙ simp (le-ltb (run (other 46) word) (length word) (omega (arith, no-point word all))) (ap (tempoBy 0) (sym (some-word 16777215 word some) ∙ e))
 
 -- digits before a point and behind it
 pub point-tempo : (front back : List ℕ) (n : ℕ) → (length front ≡ 0 → ⊥) → (length back ≡ 0 → ⊥) → length back ≤ 10 → numberBy 10 16777215 0 (front ++ back) ≡ Number n
@@ -193,9 +182,9 @@ point-tempo front back n f b h e =
     let all = sym (all-append 10 front back) ∙ all-digits 10 16777215 0 (front ++ back) n e in
     let before = and-left (allDigits 10 front) (allDigits 10 back) all in
     let behind = and-right (allDigits 10 front) (allDigits 10 back) all in
-    let point : placeOf 46 word ≡ length front = omega (arith, place-append 46 front (46 ∷ back) (no-point front before), here 46 46 back refl) in
+    let point : run (other 46) word ≡ length front = omega (arith, run-append (other 46) front (46 ∷ back) (no-point front before), at-mark 46 46 back refl) in
     sym (by-digits word (not-bits word (no-x-around front back before behind)))
-    ∙ simp (lt-ltb (placeOf 46 word) (length word) (omega (arith, length-append front (46 ∷ back))))
+    ∙ simp (lt-ltb (run (other 46) word) (length word) (omega (arith, length-append front (46 ∷ back))))
     (ap (λ (p : ℕ). pointTempo (take p word) (drop (suc p) word)) point
     ∙ ap (λ (l : List ℕ). pointTempo l (drop (suc (length front)) word)) (take-at front (46 ∷ back) (length front) refl)
     ∙ ap (pointTempo front) (past-mark front back 46)

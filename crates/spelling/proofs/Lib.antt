@@ -1,5 +1,4 @@
 pub mod Reading
-pub mod Marks
 pub mod Ratios
 pub mod Tempos
 pub mod Decimals

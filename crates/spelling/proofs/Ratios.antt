@@ -11,13 +11,14 @@ use lib.ListN.{length, take, drop, getD}
 use Rattle.numbers.specs.Signs.{mostOf}
 use Rattle.beats.specs.declared.Beat.{Beat}
 use Rattle.beats.specs.Beats.{isBeat}
+use Rattle.splits.specs.Splits.{other, run}
+use Rattle.splits.proofs.Laws.{part-rest}
 use Rattle.spelling.specs.declared.NumberAnswer.{NumberAnswer}
 use Rattle.spelling.specs.declared.NumberAnswer.the-variants as N
 use Rattle.spelling.specs.declared.BeatWord.the-variants as B
 use Rattle.spelling.specs.declared.fractions.Signed.{Signed}
 use Rattle.spelling.specs.declared.fractions.Signed.the-variants as S
-use Rattle.spelling.specs.Words.{someDigits, asNumber, numberOf, signedBy, signedOf, denominatorOf, fractionBy, fractionOf, placeOf, beatOf}
-use Rattle.spelling.proofs.Marks.{rest-is}
+use Rattle.spelling.specs.Words.{someDigits, asNumber, numberOf, signedBy, signedOf, denominatorOf, fractionBy, fractionOf, beatOf}
 
 pub number-is : (word : List ℕ) → asNumber (someDigits 4294967295 word) ≡ numberOf word
 unfolding numberOf
@@ -44,7 +45,7 @@ module _ (word : List ℕ) where
   pub over : (slash : ℕ) → slash < length word → numberOf (take (length word - (slash + 1)) (drop (slash + 1) word)) ≡ denominatorOf word slash
   unfolding denominatorOf
   over slash h =
-      ap numberOf (rest-is (slash + 1) word) ∙ ap (λ (k : ℕ). numberOf (drop k word)) (add-one slash) ∙ simp (lt-ltb slash (length word) h)
+      ap numberOf (part-rest (slash + 1) word) ∙ ap (λ (k : ℕ). numberOf (drop k word)) (add-one slash) ∙ simp (lt-ltb slash (length word) h)
 
   pub whole : (slash : ℕ) → length word ≤ slash → N.Read 1 ≡ denominatorOf word slash
   unfolding denominatorOf
@@ -52,7 +53,7 @@ module _ (word : List ℕ) where
 
   -- ---- both
 
-  pub beat-is : (slash : ℕ) → slash ≡ placeOf 47 word → (num : Signed) (den : NumberAnswer) → num ≡ signedOf (take slash word)
+  pub beat-is : (slash : ℕ) → slash ≡ run (other 47) word → (num : Signed) (den : NumberAnswer) → num ≡ signedOf (take slash word)
       → den ≡ denominatorOf word slash → fractionOf num den ≡ beatOf word
   unfolding beatOf
   beat-is slash e num den p q =

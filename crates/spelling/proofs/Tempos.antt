@@ -9,11 +9,12 @@ use lib.Dec.{ltb, leb, eqb}
 use lib.ListN.{length, take, drop, getD}
 use lib.Seq.{take-all}
 use Rattle.numbers.proofs.Laws.{by-order, and-left, cond-same}
+use Rattle.splits.specs.Splits.{other, run}
 use Rattle.spelling.specs.declared.digits.Digits.{Digits}
 use Rattle.spelling.specs.declared.digits.Digits.the-variants.{Number, NotDigits}
 use Rattle.spelling.specs.declared.TempoWord.{TempoWord}
 use Rattle.spelling.specs.declared.TempoWord.the-variants.{NotTempo}
-use Rattle.spelling.specs.Words.{placeOf, numberBy, someDigits, tempoBy, behindPoint, pointTempo, decimalTempo, isBits, asBits, bitsTempo, tempoOf}
+use Rattle.spelling.specs.Words.{numberBy, someDigits, tempoBy, behindPoint, pointTempo, decimalTempo, isBits, asBits, bitsTempo, tempoOf}
 use Rattle.spelling.proofs.Reading.{number-append, carried, no-word, some-word}
 
 -- ---- bits
@@ -91,16 +92,16 @@ pointed-is (byte ∷ front) back =
 -- ---- decimal digits
 
 module _ (word : List ℕ) where
-  at-point : placeOf 46 word < length word → pointed (someDigits 16777215 (take (placeOf 46 word) word)) (drop (suc (placeOf 46 word)) word) ≡ decimalTempo word
+  at-point : run (other 46) word < length word → pointed (someDigits 16777215 (take (run (other 46) word) word)) (drop (suc (run (other 46) word)) word) ≡ decimalTempo word
   unfolding decimalTempo
-  at-point h = simp (lt-ltb (placeOf 46 word) (length word) h) (sym (pointed-is (take (placeOf 46 word) word) (drop (suc (placeOf 46 word)) word)))
+  at-point h = simp (lt-ltb (run (other 46) word) (length word) h) (sym (pointed-is (take (run (other 46) word) word) (drop (suc (run (other 46) word)) word)))
 
-  at-end : length word ≤ placeOf 46 word → tempoBy 0 (someDigits 16777215 (take (placeOf 46 word) word)) ≡ decimalTempo word
+  at-end : length word ≤ run (other 46) word → tempoBy 0 (someDigits 16777215 (take (run (other 46) word) word)) ≡ decimalTempo word
   unfolding decimalTempo
   at-end h =
-      simp (le-ltb (placeOf 46 word) (length word) h) (ap (λ (all : List ℕ). tempoBy 0 (someDigits 16777215 all)) (take-all (placeOf 46 word) word h))
+      simp (le-ltb (run (other 46) word) (length word) h) (ap (λ (all : List ℕ). tempoBy 0 (someDigits 16777215 all)) (take-all (run (other 46) word) word h))
 
-  module _ (point : ℕ) (is : point ≡ placeOf 46 word) where
+  module _ (point : ℕ) (is : point ≡ run (other 46) word) where
     pub with-point : point < length word → pointed (someDigits 16777215 (take point word)) (drop (suc point) word) ≡ decimalTempo word
     with-point h = ap (λ (p : ℕ). pointed (someDigits 16777215 (take p word)) (drop (suc p) word)) is ∙ at-point (omega arith)
 

@@ -8,6 +8,7 @@ use lib.IntN.{ℤ, pos}
 use lib.ListN.{length, take, drop, getD}
 use Rattle.numbers.specs.Signs.{withSign, toI64, mostOf}
 use Rattle.beats.specs.Beats.{isBeat}
+use Rattle.splits.specs.Splits.{other, run}
 use Rattle.spelling.specs.declared.NumberAnswer.{NumberAnswer}
 use Rattle.spelling.specs.declared.NumberAnswer.the-variants as N
 use Rattle.spelling.specs.declared.BeatWord.{BeatWord}
@@ -47,11 +48,6 @@ module _ (base : ℕ) where
 unfoldable pub someDigits : ℕ → List ℕ → Digits
 someDigits limit word = cond (eqb (length word) 0) NotDigits (numberBy 10 limit 0 word)
 
--- the place of the first byte that is the mark, or the length where there is none
-unfoldable pub placeOf : ℕ → List ℕ → ℕ
-placeOf mark [] = 0
-placeOf mark (byte ∷ word) = elim (eqb byte mark) [ true ↦ 0 | false ↦ suc (placeOf mark word) ]
-
 -- ---- numbers
 
 abbrev pub asNumber : Digits → NumberAnswer
@@ -88,7 +84,7 @@ fractionOf S.NotNumber denominator = B.NotNumber
 
 -- `n`, `-n`, `n/d` or `-n/d`: the numerator stands before the first slash (byte 47), the denominator behind it
 unfoldable pub beatOf : List ℕ → BeatWord
-beatOf word = let slash = placeOf 47 word in fractionOf (signedOf (take slash word)) (denominatorOf word slash)
+beatOf word = let slash = run (other 47) word in fractionOf (signedOf (take slash word)) (denominatorOf word slash)
 
 -- ---- tempos
 
@@ -112,7 +108,7 @@ pointTempo front back = cond (ltb 0 (length front) && (ltb 0 (length back) && le
 -- `digits` or `digits.digits`. (The point is byte 46.)
 unfoldable pub decimalTempo : List ℕ → TempoWord
 decimalTempo word =
-    let point = placeOf 46 word in
+    let point = run (other 46) word in
     cond (ltb point (length word))
     (pointTempo (take point word) (drop (suc point) word))
     (tempoBy 0 (someDigits 16777215 word))

@@ -1,7 +1,7 @@
 // Digits, and the number that they are.
 ghost use mathlib.Core.Path.{_≡_};
 ghost use Prim.Native.Nat.{_≤_};
-ghost use Rattle.spelling.specs.Words.{digitOf, numberBy, someDigits, placeOf};
+ghost use Rattle.spelling.specs.Words.{digitOf, numberBy, someDigits};
 
 // What digits say.
 pub enum Digits {
@@ -65,18 +65,4 @@ pub fn some(word: &[u8], limit: u64) -> Digits
         return Digits::NotDigits;
     }
     behind(word, 10, limit, 0)
-}
-
-// The place of the first byte that is `mark`, or the length where there is none.
-pub fn place(word: &[u8], mark: u8) -> usize
-    ensures { λ r. ⌜ r ≡ placeOf mark (now (word .entry)) ⌝ }
-{
-    let mut i = 0;
-    while i < word.len() {
-        if word[i] == mark {
-            return i;
-        }
-        i += 1;
-    }
-    i
 }

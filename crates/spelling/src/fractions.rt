@@ -4,6 +4,7 @@ use crate::NumberAnswer;
 use crate::digits;
 use crate::digits::Digits;
 use beats::Beat;
+use splits::scan;
 ghost use mathlib.Core.Path.{_≡_};
 ghost use Prim.Native.Nat.{_≤_};
 ghost use lib.ListN.{length};
@@ -66,7 +67,7 @@ fn ratio(num: i64, den: u32) -> BeatWord
 pub fn fraction(word: &[u8]) -> BeatWord
     ensures { λ r. ⌜ r ≡ beatOf (now (word .entry)) ⌝ }
 {
-    let slash = digits::place(word, b'/');
+    let slash = scan::until(word, 0, b'/');
     match numerator(&word[..slash]) {
         Signed::NotNumber => BeatWord::NotNumber,
         Signed::Number(num) => match denominator(word, slash) {

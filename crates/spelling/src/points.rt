@@ -2,6 +2,7 @@
 use crate::TempoWord;
 use crate::digits;
 use crate::digits::Digits;
+use splits::scan;
 ghost use mathlib.Core.Path.{_≡_};
 ghost use Prim.Native.Nat.{_≤_};
 ghost use lib.IntN.{pos};
@@ -61,7 +62,7 @@ fn behind_point(front: u64, word: &[u8]) -> TempoWord
 fn decimal(word: &[u8]) -> TempoWord
     ensures { λ r. ⌜ r ≡ decimalTempo (now (word .entry)) ⌝ }
 {
-    let point = digits::place(word, b'.');
+    let point = scan::until(word, 0, b'.');
     match digits::some(&word[..point], 0xff_ffff) {
         Digits::NotDigits => TempoWord::NotTempo,
         Digits::Number(front) => {

@@ -8,10 +8,11 @@ use native.Mathlib.Numerals.{add-one}
 use borrow.Author.Tests.{eq-eqb, ne-eqb}
 use lib.Dec.{eqb}
 use lib.ListN.{length, take, drop, getD, length-drop, drop-of-length-le}
-use lib.Seq.{drop-cons, drop-drop, drop-length}
+use lib.Seq.{drop-cons, drop-drop, drop-length, take-all}
 use Rattle.splits.specs.declared.found.Found.the-variants.{One, Two, Other}
 use Rattle.splits.specs.Splits.{blank, inked, other, run, past, part, split, filled, lines, words, body, few, same}
 use Rattle.splits.specs.Readings.{readFound}
+use Rattle.splits.proofs.Runs.{past-front}
 use Rattle.splits.proofs.Parts.{split-first, skip, begins, word-first}
 
 -- ---- lines
@@ -32,11 +33,15 @@ next-line text place end h e =
     ∙ ap (λ (k : ℕ). take k (drop place text) ∷ split (λ byte. eqb byte 10) (drop (suc n) (drop place text))) (sym size)
     ∙ ap (λ (l : List ℕ). part text place end ∷ split (λ byte. eqb byte 10) l) (drop-drop (suc n) place text ∙ ap (λ (k : ℕ). drop k text) behind)
 
+-- a part up to the end
+pub part-rest : (from : ℕ) (text : List ℕ) → part text from (length text) ≡ drop from text
+part-rest from text = take-all (length text - from) (drop from text) (simp length-drop (omega arith))
+
 -- ---- the comment cut off
 
 pub body-is : (line : List ℕ) (end : ℕ) → end ≡ past (other 35) line 0 → take end line ≡ body line
-unfolding body past
-body-is line end e = let size : end ≡ run (other 35) line = omega arith in ap (λ (k : ℕ). take k line) size
+unfolding body
+body-is line end e = ap (λ (k : ℕ). take k line) (e ∙ past-front (other 35) line)
 
 -- ---- words
 

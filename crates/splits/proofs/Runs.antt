@@ -1,13 +1,15 @@
 -- A run goes on with a byte of its kind and stops at any other, and never goes past the end.
-use mathlib.Core.Path.{_≡_, sym, ap, _∙_}
-use mathlib.Core.Bool.{Bool, true, false}
-use mathlib.Core.List.{List, [], _∷_}
+use mathlib.Core.Path.{_≡_, refl, sym, ap, _∙_}
+use mathlib.Core.Bool.{Bool, true, false, not}
+use mathlib.Core.List.{List, [], _∷_, _++_}
 use Prim.Native.Nat.{ℕ, suc, _+_, _≤_, _<_}
 use native.Mathlib.Omega.{arith}
 use native.Mathlib.Numerals.{add-one}
+use borrow.Author.Tests.{eq-eqb, ne-eqb}
+use borrow.Table.Steps.{cases}
 use lib.ListN.{length, drop, getD}
 use lib.Seq.{drop-cons, drop-length}
-use Rattle.splits.specs.Splits.{longer, run, past}
+use Rattle.splits.specs.Splits.{other, longer, run, past}
 
 module _ (kind : ℕ → Bool) where
   -- ---- by the byte in front
@@ -28,6 +30,20 @@ module _ (kind : ℕ → Bool) where
       go : (b : Bool) → run kind rest ≤ length rest → longer b (run kind rest) ≤ suc (length rest)
       go true h = omega arith
       go false h = omega arith
+
+  pub run-nil : run kind [] ≡ 0
+  unfolding run
+  run-nil = refl
+
+  -- a run over all of the front goes on behind it
+  pub run-append : (front back : List ℕ) → run kind front ≡ length front → run kind (front ++ back) ≡ length front + run kind back
+  run-append [] back e = omega arith
+  run-append (byte ∷ front) back e =
+      cases (kind byte)
+      (λ t.
+      let rest = run-append front back (omega (arith, run-more byte front t)) in
+      omega (arith, run-more byte (front ++ back) t))
+      (λ t. let z : ⊥ = omega (arith, run-none byte front t) in absurd z)
 
   -- ---- by places
 
@@ -51,6 +67,19 @@ module _ (kind : ℕ → Bool) where
     past-end from e =
         let r : run kind (drop from text) ≡ 0 = ap (λ (k : ℕ). run kind (drop k text)) e ∙ ap (run kind) (drop-length text) in
         omega arith
+
+  pub past-front : (text : List ℕ) → past kind text 0 ≡ run kind text
+  unfolding past
+  past-front text = omega arith
+
+-- ---- up to a mark
+
+module _ (mark byte : ℕ) (rest : List ℕ) where
+  pub at-mark : byte ≡ mark → run (other mark) (byte ∷ rest) ≡ 0
+  at-mark e = run-none (other mark) byte rest (ap not (eq-eqb byte mark e))
+
+  pub before-mark : (byte ≡ mark → ⊥) → run (other mark) (byte ∷ rest) ≡ suc (run (other mark) rest)
+  before-mark n = run-more (other mark) byte rest (ap not (ne-eqb byte mark n))
 
 -- ---- a scan
 

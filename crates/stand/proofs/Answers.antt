@@ -2,11 +2,11 @@
 use mathlib.Core.Path.{_≡_, ap, _∙_}
 use mathlib.Core.List.{List, []}
 use Prim.Native.Nat.{ℕ}
-use Rattle.numbers.specs.Answers.{Answer, accepted, refused, number}
+use Rattle.numbers.specs.Answers.{Answer, accepted, refused, number, given}
 use Rattle.transport.specs.declared.Transport.{Transport}
 use Rattle.transport.specs.Changes.{Handed}
 use Rattle.clock_words.specs.Clocks.{placed}
-use Rattle.stand.specs.Words.{given, clockAfter}
+use Rattle.stand.specs.Words.{clockAfter}
 
 module _ {A : Type 0} where
   pub number-refused : {answer : Answer A} {n : ℕ} → answer ≡ refused n [] → n ≡ number answer

@@ -8,7 +8,7 @@ use native.Mathlib.Omega.{arith}
 use borrow.Author.Tests.{eq-eqb}
 use lib.Dec.{leb, eqb}
 use lib.ListN.{length, getD}
-use Rattle.numbers.specs.Answers.{Answer, accepted, refused, number}
+use Rattle.numbers.specs.Answers.{Answer, accepted, refused, number, given}
 use Rattle.numbers.proofs.Laws.{never, and-left, and-right}
 use Rattle.meter.specs.Fits.{isAccepted}
 use Rattle.transport.specs.declared.playhead.Run.{Run}
@@ -24,7 +24,7 @@ use Rattle.cues.proofs.Laws.{by-blocks, accepting}
 use Rattle.clock_words.specs.Clocks.{clockOf, placed}
 use Rattle.clock_words.proofs.Laws.{reads, by-words, placed-twice, placed-long}
 use Rattle.stand.specs.Calls.{cued, cuesAfter}
-use Rattle.stand.specs.Words.{given, flags, saidFlags, saidCount}
+use Rattle.stand.specs.Words.{flags, saidFlags, saidCount}
 use Rattle.stand.specs.Promise.{Call, blocksOf, saysWrapped, saysFinished, handedTo, numberTo, clockThen, reportThen, cuesThen}
 use Rattle.stand.specs.Promise.{allZero, cuesJoined, lastClock, someWrapped, someFinished, SameAsCalls, CutsIntoBlocks, Carries}
 use Rattle.stand.proofs.Carrying.{is-clock, carries}

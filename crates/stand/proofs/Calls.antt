@@ -6,7 +6,7 @@ use lib.IntN.{ℤ}
 use mir.Syntax.{w64}
 use mir.Val.{SFits, toZ, ofZ}
 use mir.ValLaws.{toZ-ofZ}
-use Rattle.numbers.specs.Answers.{refused, number}
+use Rattle.numbers.specs.Answers.{refused, number, given}
 use Rattle.meter.specs.declared.Pickup.{Pickup}
 use Rattle.meter.specs.declared.BarAnswer.{BarAnswer}
 use Rattle.meter.specs.declared.CountAnswer.{CountAnswer}
@@ -28,7 +28,7 @@ use Rattle.cues.specs.CueCall.{Said, cueAnswer, cueAfter}
 use Rattle.cues.specs.Readings.{readReport, readCues}
 use Rattle.clock_words.specs.Clocks.{pickupOf, clockOf}
 use Rattle.stand.specs.Calls.{counted, started, framed, filled, linesAfter, advancedBy, cued, cuesAfter}
-use Rattle.stand.specs.Words.{given, saidCount, saidFlags, clockAfter}
+use Rattle.stand.specs.Words.{saidCount, saidFlags, clockAfter}
 use Rattle.stand.proofs.Answers.{number-refused, kept, clock-kept}
 
 -- ---- of a pickup

@@ -7,7 +7,7 @@ use mathlib.Core.List.{List, [], _∷_, _++_, map}
 use Prim.Native.Nat.{ℕ, _+_, _-_, _/_, _%_, _≤_, _^_}
 use lib.Dec.{eqb}
 use lib.ListN.{length, getD}
-use Rattle.numbers.specs.Answers.{accepted, number}
+use Rattle.numbers.specs.Answers.{accepted, number, given}
 use Rattle.transport.specs.Transports.{sound}
 use Rattle.transport.specs.Changes.{Handed}
 use Rattle.lines.specs.Lines.{linesAnswer}
@@ -16,7 +16,7 @@ use Rattle.cues.specs.CueCall.{Said}
 use Rattle.cues.specs.Promise.{Block, pairsOf, framesIn, allRoom}
 use Rattle.clock_words.specs.Clocks.{clockOf}
 use Rattle.stand.specs.Calls.{advancedBy, cued, cuesAfter}
-use Rattle.stand.specs.Words.{given, saidFlags, saidCount, clockAfter}
+use Rattle.stand.specs.Words.{saidFlags, saidCount, clockAfter}
 
 -- ---- from call to call
 

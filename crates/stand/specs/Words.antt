@@ -1,17 +1,13 @@
--- What the exported calls write. The number that each answers is that of its answer: 0, or the refusal's (`number`).
+-- What the exported calls write. The number that each answers is that of its answer: 0, or the refusal's (`number`), and a lent word
+-- afterwards is what an accepted answer gives it; a refusal leaves it as it was (`given`).
 use Prim.Native.Nat.{ℕ, _+_}
 use mathlib.Core.Bool.{Bool, cond}
 use mathlib.Core.List.{List}
-use Rattle.numbers.specs.Answers.{Answer, accepted, refused}
+use Rattle.numbers.specs.Answers.{given}
 use Rattle.transport.specs.Changes.{Handed}
 use Rattle.transport.specs.Advances.{Moves}
 use Rattle.cues.specs.CueCall.{Said}
 use Rattle.clock_words.specs.Clocks.{placed}
-
--- a lent word afterwards: what an accepted answer gives it; a refusal leaves it as it was
-abbrev pub given : {A B : Type 0} → (A → B) → Answer A → B → B
-given part (accepted a) old = part a
-given part (refused number facts) old = old
 
 -- 1 where it wrapped, and 2 where it finished
 unfoldable pub flags : Bool → Bool → ℕ

@@ -11,10 +11,10 @@ use timeline::FrameAnswer;
 use timeline::tests::Refusal;
 use transport::Advance;
 ghost use mathlib.Core.Path.{_≡_};
-ghost use Rattle.numbers.specs.Answers.{number};
+ghost use Rattle.numbers.specs.Answers.{number, given};
 ghost use Rattle.timeline.specs.Readings.{numberOf};
 ghost use Rattle.stand.specs.Calls.{counted, started, framed, filled, linesAfter, advancedBy, cued, cuesAfter};
-ghost use Rattle.stand.specs.Words.{given, flags, movesFlags, saidFlags, saidCount, clockAfter};
+ghost use Rattle.stand.specs.Words.{flags, movesFlags, saidFlags, saidCount, clockAfter};
 
 fn number_of(why: Refusal) -> u32
     ensures { λ r. ⌜ r ≡ numberOf why ⌝ }

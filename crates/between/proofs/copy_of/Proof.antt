@@ -5,8 +5,7 @@ use Prim.Native.Nat.{ℕ, _≤_, _<_}
 use lib.ListN.{length}
 use borrow.Author.Tests.{lt-leb, le-leb}
 use borrow.Author.Needs.{needs}
-use Rattle.numbers.specs.Answers.{accepted, refused}
-use Rattle.lines.specs.Lines.{over}
+use Rattle.numbers.specs.Answers.{accepted, refused, over}
 use Rattle.lines.specs.Readings.{readLines}
 use Rattle.lines.specs.declared.LinesReport.{LinesReport}
 use Rattle.lines.specs.declared.LinesReport.the-variants.{Fine}

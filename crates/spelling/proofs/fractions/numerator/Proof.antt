@@ -3,7 +3,7 @@ use mathlib.Core.Path.{ap, _∙_}
 use borrow.Author.Needs.{needs}
 use mathlib.Core.Bool.{true, false}
 use Rattle.spelling.specs.Words.{someDigits, signedBy}
-use Rattle.spelling.proofs.Marks.{rest-is}
+use Rattle.splits.proofs.Laws.{part-rest}
 use Rattle.spelling.proofs.Ratios.{no-sign, minus, plus}
 use Rattle.spelling.proofs.fractions.numerator.Statement.{statement}
 use Rattle.spelling.proofs.fractions.numerator.Tie as tie
@@ -33,7 +33,7 @@ returns-2 : tie.Need-returns-2
 returns-2 c =
     let word = c .before .before .before .before .before .before .before .args .word .now in
     c .with-sign .ensures
-    ∙ ap (signedBy true) (c .before .some .ensures ∙ ap (someDigits 9223372036854775808) (rest-is 1 word))
+    ∙ ap (signedBy true) (c .before .some .ensures ∙ ap (someDigits 9223372036854775808) (part-rest 1 word))
     ∙ minus word (c .before .before .before .if2 .taken)
 
 some-requires-2 : tie.Need-some-requires-2

@@ -6,20 +6,21 @@ use native.Mathlib.Omega.{arith}
 use borrow.Author.Needs.{needs}
 use lib.ListN.{drop}
 use lib.Seq.{length-take-le}
+use Rattle.splits.specs.Splits.{other}
+use Rattle.splits.proofs.Laws.{past-front, part-rest}
 use Rattle.spelling.specs.declared.digits.Digits.{Digits}
 use Rattle.spelling.specs.declared.TempoWord.the-variants.{Read}
 use Rattle.spelling.specs.Words.{tempoBy, behindPoint}
 use Rattle.spelling.proofs.Reading.{some-most}
-use Rattle.spelling.proofs.Marks.{front-long, rest-is}
 use Rattle.spelling.proofs.Tempos.{pointed, with-point, without-point, no-front}
 use Rattle.spelling.proofs.points.decimal.Statement.{statement}
 use Rattle.spelling.proofs.points.decimal.Tie as tie
 
-place-requires : tie.Need-place-requires
-place-requires c κs = search needs
+until-requires : tie.Need-until-requires
+until-requires c κs = search needs
 
 slice-aggregate-some : tie.Need-slice-aggregate-some
-slice-aggregate-some c = sym (length-take-le _ _ (front-long _ _ _ (c .before .place .ensures)))
+slice-aggregate-some c = sym (length-take-le _ _ (c .before .until .ensures .2))
 
 some-requires : tie.Need-some-requires
 some-requires c κs = search needs
@@ -58,7 +59,7 @@ over-ten-requires c κs = search needs
 returns : tie.Need-returns
 returns c =
     let read = c .before .before in
-    no-front _ _ (read .before .before .place .ensures) (sym (c .enum-told .given .1) ∙ read .some .ensures)
+    no-front _ _ (read .before .before .until .ensures .0 ∙ past-front (other 46) _) (sym (c .enum-told .given .1) ∙ read .some .ensures)
 
 returns-2 : tie.Need-returns-2
 unfolding pointed
@@ -67,12 +68,12 @@ returns-2 c =
     let bound = test .before .before in
     let read = bound .before .before in
     let word = read .before .before .before .before .args .word .now in
-    let point = read .before .before .place .result in
+    let point = read .before .before .until .result in
     let front = sym (bound .front .given .1) ∙ read .some .ensures in
     c .behind-point .ensures
-    ∙ ap (behindPoint _) (rest-is (point + 1) word ∙ ap (λ (k : ℕ). drop k word) (add-one point))
+    ∙ ap (behindPoint _) (part-rest (point + 1) word ∙ ap (λ (k : ℕ). drop k word) (add-one point))
     ∙ ap (λ (said : Digits). pointed said (drop (suc point) word)) front
-    ∙ with-point word point (read .before .before .place .ensures) (test .if1 .taken)
+    ∙ with-point word point (read .before .before .until .ensures .0 ∙ past-front (other 46) _) (test .if1 .taken)
 
 returns-3 : tie.Need-returns-3
 returns-3 c =
@@ -80,13 +81,13 @@ returns-3 c =
     let bound = test .before .before in
     let read = bound .before .before in
     ap Read (c .over-ten .ensures) ∙ ap (tempoBy 0) (sym (bound .front .given .1) ∙ read .some .ensures)
-    ∙ without-point _ _ (read .before .before .place .ensures) (test .if1 .left)
+    ∙ without-point _ _ (read .before .before .until .ensures .0 ∙ past-front (other 46) _) (test .if1 .left)
 
 pub decimal-spec : {M : Type 1} → statement M
 decimal-spec =
     tie.close
     (tie.spec
-    place-requires
+    until-requires
     slice-aggregate-some
     some-requires
     enum-told

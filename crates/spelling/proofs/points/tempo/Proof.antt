@@ -3,7 +3,7 @@ use mathlib.Core.Path.{sym, ap, _∙_}
 use native.Mathlib.Omega.{arith}
 use borrow.Author.Needs.{needs}
 use Rattle.spelling.specs.Words.{bitsTempo}
-use Rattle.spelling.proofs.Marks.{rest-is}
+use Rattle.splits.proofs.Laws.{part-rest}
 use Rattle.spelling.proofs.Tempos.{ten-bytes, by-bits, by-digits}
 use Rattle.spelling.proofs.points.tempo.Statement.{statement}
 use Rattle.spelling.proofs.points.tempo.Tie as tie
@@ -30,7 +30,7 @@ returns : tie.Need-returns
 returns c =
     let test = c .before .before in
     let word = test .before .before .before .args .word .now in
-    c .bits .ensures ∙ ap bitsTempo (rest-is 2 word) ∙ by-bits word (sym (test .before .is-bits .ensures) ∙ test .if1 .taken)
+    c .bits .ensures ∙ ap bitsTempo (part-rest 2 word) ∙ by-bits word (sym (test .before .is-bits .ensures) ∙ test .if1 .taken)
 
 returns-2 : tie.Need-returns-2
 returns-2 c = c .decimal .ensures ∙ by-digits _ (sym (c .before .before .is-bits .ensures) ∙ c .before .if1 .left)
