@@ -29,19 +29,23 @@ pub fn fill(
     marks::mark(words, out);
     let mut seg = segments::open(t, words);
     let mut ahead = stands::begin(nums, dens, tempos);
-    let mut behind = ahead;
+    let mut behind = [ahead; stands::PLACES];
     let mut k: usize = 0;
     while k < out.len() {
         let bar = k as u32;
         seg = segments::on_to(t, words, bar, out[k], seg);
         let beat = frames::float_of(segments::start_in(seg, bar));
-        let from = stands::resume(nums, dens, tempos, beat, ahead, behind);
+        let from = if ahead.beat <= beat {
+            ahead
+        } else {
+            stands::resume(nums, dens, tempos, beat, behind[stands::place_of(beat)])
+        };
         let stand = stands::walk_to(nums, dens, tempos, beat, from);
         out[k] = stands::frame_at(t, nums, dens, tempos, stand);
         if ahead.beat <= beat {
             ahead = stand;
         } else {
-            behind = stand;
+            behind[stands::place_of(beat)] = stand;
         }
         k += 1;
     }
