@@ -1,6 +1,7 @@
-// The lines one after the other, each from what those before it have left. A start that overflows
-// is (2^63 - 1)/1, and the next may be an ordinary one again; so two walks over the tempo map are
-// kept, `ahead` to the latest beat so far and `behind` to the last that fell behind it.
+// The lines one after the other, each from what those before it have left. Of the walks over the
+// tempo map `ahead` is the one to the latest beat so far. Starts fall behind it after one that
+// overflows, after bar 0 where the pickup is below 0, and where rounding turns the order of two:
+// `behind` has the walks to these.
 use crate::marks;
 use crate::segments;
 use crate::stands;

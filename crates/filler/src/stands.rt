@@ -39,10 +39,11 @@ pub fn begin(nums: &[i64], dens: &[u32], tempos: &[u32]) -> Stand
     }
 }
 
-// How many walks are kept to beats that fell behind.
+// How many walks are kept for the beats that fall behind the latest.
 pub const PLACES: usize = 4;
 
-// The place of a beat's walk among them: four floats in a row have four places.
+// The place of a beat's walk among them: each is for every fourth float. Rounding puts a start at
+// most three floats below one before it, so the beats of a place do not fall, and its walk goes on.
 pub fn place_of(beat: f64) -> usize
     ensures { λ r. ⌜ r ≡ toBits binary64 beat % 4 ⌝ }
 {
