@@ -1,11 +1,12 @@
 -- The carried tempo walk: a point was passed because the beat is not at or before it, and then no later beat is; so where the walk for a beat stops, that for a later one may go on.
 use mathlib.Core.Path.{_≡_, refl, subst}
 use mathlib.Core.Bool.{Bool, true, false}
-use mathlib.Core.List.{List}
-use Prim.Native.Nat.{ℕ, _+_, _≤_, _<_}
+use mathlib.Core.List.{List, [], _∷_}
+use Prim.Native.Nat.{ℕ, zero, suc, _+_, _≤_, _<_}
+use native.Mathlib.Omega.{arith}
 use lib.Dec.{T}
 use lib.IntN.{ℤ, pos}
-use lib.ListN.{length, getD}
+use lib.ListN.{length, getD, set}
 use lib.Ieee.{Float, le}
 use Rattle.numbers.proofs.Laws.{holds}
 use Rattle.rounding.specs.Floats.{float0}
@@ -71,3 +72,22 @@ module _ (nums : List ℤ) (dens tempos : List ℕ) (even : Parallel nums dens t
           not-stopped : (further : Float) → T (le beat further) → (b : Bool) → le further at ≡ b → le further at ≡ false
           not-stopped further k true u = absurd (subst T t (le-trans-float beat further at k (holds (le further at) u)))
           not-stopped further k false u = u
+
+-- ---- walks that are kept
+
+module _ (nums : List ℤ) (dens tempos : List ℕ) where
+  -- each serves its own beat
+  abbrev pub AllServe : List Stand → Type 0
+  AllServe [] = Unit
+  AllServe (w ∷ rest) = Serves nums dens tempos (w .beat) w × AllServe rest
+
+  pub one-serves : (kept : List Stand) (place : ℕ) (none : Stand) → place < length kept → AllServe kept → Serves nums dens tempos (getD kept place none .beat) (getD kept place none)
+  one-serves [] place none h s = absurd (omega arith)
+  one-serves (w ∷ rest) zero none h s = s .0
+  one-serves (w ∷ rest) (suc place) none h s = one-serves rest place none (omega arith) (s .1)
+
+  -- another takes the place of one
+  pub placed-serve : (kept : List Stand) (place : ℕ) (w : Stand) → Serves nums dens tempos (w .beat) w → AllServe kept → AllServe (set kept place w)
+  placed-serve [] place w h s = tt
+  placed-serve (first ∷ rest) zero w h s = (h, s .1)
+  placed-serve (first ∷ rest) (suc place) w h s = (s .0, placed-serve rest place w h (s .1))

@@ -1,6 +1,7 @@
-// The lines one after the other, each from what those before it have left. A start that overflows
-// is (2^63 - 1)/1, and the next may be an ordinary one again; so two walks over the tempo map are
-// kept, `ahead` to the latest beat so far and `behind` to the last that fell behind it.
+// The lines one after the other, each from what those before it have left. Of the walks over the
+// tempo map `ahead` is the one to the latest beat so far. Starts fall behind it after one that
+// overflows, after bar 0 where the pickup is below 0, and where rounding turns the order of two:
+// `behind` has the walks to these.
 use crate::marks;
 use crate::segments;
 use crate::stands;
@@ -29,19 +30,23 @@ pub fn fill(
     marks::mark(words, out);
     let mut seg = segments::open(t, words);
     let mut ahead = stands::begin(nums, dens, tempos);
-    let mut behind = ahead;
+    let mut behind = [ahead; stands::PLACES];
     let mut k: usize = 0;
     while k < out.len() {
         let bar = k as u32;
         seg = segments::on_to(t, words, bar, out[k], seg);
         let beat = frames::float_of(segments::start_in(seg, bar));
-        let from = stands::resume(nums, dens, tempos, beat, ahead, behind);
+        let from = if ahead.beat <= beat {
+            ahead
+        } else {
+            stands::resume(nums, dens, tempos, beat, behind[stands::place_of(beat)])
+        };
         let stand = stands::walk_to(nums, dens, tempos, beat, from);
         out[k] = stands::frame_at(t, nums, dens, tempos, stand);
         if ahead.beat <= beat {
             ahead = stand;
         } else {
-            behind = stand;
+            behind[stands::place_of(beat)] = stand;
         }
         k += 1;
     }

@@ -1,7 +1,5 @@
 // The line filler: a whole lent list of bar lines, entry k the frame of bar k. Its cost is that of
-// the lines and of the maps: what a line needs of the maps is carried on to the next. One case is
-// left: where a meter's denominator is no power of two and starts have numerators above 2^53,
-// rounding may turn the order of two starts, and then the walk over the tempo map may begin anew.
+// the lines and of the maps: what a line needs of the maps is carried on to the next.
 use tempo::MapTest;
 use timeline::tests;
 use timeline::tests::Refusal;

@@ -7,6 +7,8 @@ use tempo::walks;
 use timeline::places;
 use transport::Transport;
 ghost use mathlib.Core.Path.{_≡_};
+ghost use Prim.Native.Nat.{_%_};
+ghost use lib.Ieee.{toBits, binary64};
 ghost use Rattle.tempo.specs.Tempos.{tempoPoints};
 ghost use Rattle.timeline.specs.Places.{Parallel, frameAtBeat};
 ghost use Rattle.filler.specs.Carried.{Serves, ServesAll, Stopped};
@@ -37,26 +39,25 @@ pub fn begin(nums: &[i64], dens: &[u32], tempos: &[u32]) -> Stand
     }
 }
 
-// Where to go on for a beat: from the walk that is ahead; where the beat falls behind it, from the
-// other one; and where it falls behind both, from the beginning.
-pub fn resume(
-    nums: &[i64],
-    dens: &[u32],
-    tempos: &[u32],
-    beat: f64,
-    ahead: Stand,
-    behind: Stand,
-) -> Stand
+// How many walks are kept for the beats that fall behind the latest.
+pub const PLACES: usize = 4;
+
+// The place of a beat's walk among them: each is for every fourth float. Rounding puts a start at
+// most three floats below one before it, so the beats of a place do not fall, and its walk goes on.
+pub fn place_of(beat: f64) -> usize
+    ensures { λ r. ⌜ r ≡ toBits binary64 beat % 4 ⌝ }
+{
+    rounding::f64_word(beat) as usize % PLACES
+}
+
+// Where to go on for a beat: from a walk, and where the beat falls behind it, from the beginning.
+pub fn resume(nums: &[i64], dens: &[u32], tempos: &[u32], beat: f64, w: Stand) -> Stand
     requires { ⌜ Parallel (now nums) (now dens) (now tempos) ⌝ }
-    requires { ⌜ Serves (now nums) (now dens) (now tempos) (ahead .beat) ahead ⌝ }
-    requires { ⌜ Serves (now nums) (now dens) (now tempos) (behind .beat) behind ⌝ }
+    requires { ⌜ Serves (now nums) (now dens) (now tempos) (w .beat) w ⌝ }
     ensures { λ r. ⌜ Serves (now (nums .entry)) (now (dens .entry)) (now (tempos .entry)) beat r ⌝ }
 {
-    if ahead.beat <= beat {
-        return ahead;
-    }
-    if behind.beat <= beat {
-        return behind;
+    if w.beat <= beat {
+        return w;
     }
     begin(nums, dens, tempos)
 }

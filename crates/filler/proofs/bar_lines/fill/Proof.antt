@@ -10,7 +10,8 @@ use Rattle.meter.specs.Meters.{pointsOf}
 use Rattle.tempo.specs.Tempos.{tempoPoints}
 use Rattle.filler.specs.Fills.{barLines}
 use Rattle.filler.proofs.Standing.{within}
-use Rattle.filler.proofs.Filling.{Filled, filled-none, filled-all, mark-here, filled-ahead, filled-behind}
+use Rattle.filler.proofs.Serving.{serves-later}
+use Rattle.filler.proofs.Filling.{Filled, filled-none, filled-all, place-serves, mark-here, filled-ahead, filled-behind}
 use Rattle.filler.proofs.bar_lines.fill.Statement.{statement}
 use Rattle.filler.proofs.bar_lines.fill.Tie as tie
 
@@ -62,43 +63,67 @@ start-in-requires c κs =
 float-of-requires : tie.Need-float-of-requires Inv-loop μ-loop
 float-of-requires c κs = search needs
 
+place-of-requires : tie.Need-place-of-requires Inv-loop μ-loop
+place-of-requires c κs = search needs
+
+mul-resume : tie.Need-mul-resume Inv-loop μ-loop
+mul-resume c = search needs
+
+array-copy-out-resume : tie.Need-array-copy-out-resume Inv-loop μ-loop
+array-copy-out-resume c = omega (arith, c .place-of .ensures)
+
 resume-requires : tie.Need-resume-requires Inv-loop μ-loop
-resume-requires c κs =
-    let s = c .before .before .before .before .before .before .before .before .before .before .before .before .before .before .before .before in
-    let l = c .before .before .before .before .before .loop in
-    (s .pre .0, (l .inv .first, l .inv .second))
+resume-requires c κs = (c .before .before .before .before .before .before .before .before .before .before .before .before .before .before .before .before .before .before .before .before .pre .0, place-serves (c .before .before .before .before .before .before .before .before .before .loop .inv) (c .before .place-of .result) _ (omega (arith, c .before .place-of .ensures)))
 
 walk-to-requires : tie.Need-walk-to-requires Inv-loop μ-loop
-walk-to-requires c κs = (c .before .before .before .before .before .before .before .before .before .before .before .before .before .before .before .before .before .pre .0, c .resume .ensures)
+walk-to-requires c κs =
+    let s = c .before .before .before .before .before .before .before .before .before .before .before .before .before .before .before .before .before .before in
+    let a = s .args in
+    let l = c .before .before .before .before .before .before .before .loop in (
+      s .pre .0,
+      ⊎-elim
+          (λ w. rw (w .1) (serves-later (now (a .nums)) (now (a .dens)) (now (a .tempos)) (s .pre .0) (l .ahead .beat) _ (l .ahead) (w .0 .taken) (l .inv .first)))
+          (λ w. rw (w .4) (w .3 .ensures))
+          (c .if1 .came),
+    )
 
 frame-at-requires : tie.Need-frame-at-requires Inv-loop μ-loop
-frame-at-requires c κs = (c .before .before .before .before .before .before .before .before .before .before .before .before .before .before .before .before .before .before .pre .0, c .walk-to .ensures .1)
+frame-at-requires c κs = (c .before .before .before .before .before .before .before .before .before .before .before .before .before .before .before .before .before .before .before .pre .0, c .walk-to .ensures .1)
 
 mul-out : tie.Need-mul-out Inv-loop μ-loop
-mul-out c = omega (arith, few (c .before .before .before .before .before .before .before))
+mul-out c = omega (arith, few (c .before .before .before .before .before .before .before .before))
 
 slice-write-out : tie.Need-slice-write-out Inv-loop μ-loop
 slice-write-out c = search needs
 
+place-of-requires-2 : tie.Need-place-of-requires-2 Inv-loop μ-loop
+place-of-requires-2 c κs = search needs
+
+mul-behind : tie.Need-mul-behind Inv-loop μ-loop
+mul-behind c = search needs
+
+array-set-from-behind : tie.Need-array-set-from-behind Inv-loop μ-loop
+array-set-from-behind c = omega (arith, c .place-of2 .ensures)
+
 add-k : tie.Need-add-k Inv-loop μ-loop
-add-k c = omega (arith, few (c .before .before .before .before .before .before .before .before .before))
+add-k c = omega (arith, few (c .before .before .before .before .before .before .before .before .before .before))
 
 loop-less : tie.Need-loop-less Inv-loop μ-loop
-loop-less c = omega (arith, c .before .before .before .before .before .before .before .before .before .before .loop .inv .long, c .before .before .before .before .before .before .before .before .before .loop-test .taken)
+loop-less c = omega (arith, c .before .before .before .before .before .before .before .before .before .before .before .loop .inv .long, c .before .before .before .before .before .before .before .before .before .before .loop-test .taken)
 
 loop-again : tie.Need-loop-again Inv-loop μ-loop
 loop-again c =
-    let turn = c .before .before .before .before .before .before .before .before .before in
+    let turn = c .before .before .before .before .before .before .before .before .before .before in
     let inv = turn .before .loop .inv in
-    let has = c .before .before .before .before .before .before .before .on-to .ensures in
-    let start = c .before .before .before .before .before .before .start-in .ensures in
-    let beat = c .before .before .before .before .before .float-of .ensures in
+    let has = c .before .before .before .before .before .before .before .before .on-to .ensures in
+    let start = c .before .before .before .before .before .before .before .start-in .ensures in
+    let beat = c .before .before .before .before .before .before .float-of .ensures in
     let walked = c .before .before .before .walk-to .ensures in
     let frame = c .before .before .frame-at .ensures in
     ⊎-elim
     (λ w. rw (w .1, w .2) (filled-ahead inv (turn .loop-test .taken) has start beat (walked .0) (walked .1) frame))
-    (λ w. rw (w .1, w .2) (filled-behind inv (turn .loop-test .taken) has start beat (walked .0) (walked .1) frame))
-    (c .if1 .came)
+    (λ w. rw (w .2, w .3) (filled-behind inv (turn .loop-test .taken) has start beat (walked .0) (walked .1) frame (w .1 .result)))
+    (c .if2 .came)
 
 same-length : tie.Need-same-length Inv-loop μ-loop
 same-length c = search needs
@@ -126,11 +151,17 @@ fill-spec =
     on-to-requires
     start-in-requires
     float-of-requires
+    place-of-requires
+    mul-resume
+    array-copy-out-resume
     resume-requires
     walk-to-requires
     frame-at-requires
     mul-out
     slice-write-out
+    place-of-requires-2
+    mul-behind
+    array-set-from-behind
     add-k
     loop-less
     loop-again

@@ -8,19 +8,13 @@ returns : tie.Need-returns
 returns c =
     let s = c .before .before .before .before in
     let a = s .args in
-    serves-later (now (a .nums)) (now (a .dens)) (now (a .tempos)) (s .pre .0) (a .ahead .beat) (a .beat) (a .ahead) (c .if1 .taken) (s .pre .1 .0)
-
-returns-2 : tie.Need-returns-2
-returns-2 c =
-    let s = c .before .before .before .before .before .before in
-    let a = s .args in
-    serves-later (now (a .nums)) (now (a .dens)) (now (a .tempos)) (s .pre .0) (a .behind .beat) (a .beat) (a .behind) (c .if2 .taken) (s .pre .1 .1)
+    serves-later (now (a .nums)) (now (a .dens)) (now (a .tempos)) (s .pre .0) (a .w .beat) (a .beat) (a .w) (c .if1 .taken) (s .pre .1)
 
 begin-requires : tie.Need-begin-requires
-begin-requires c κs = c .before .before .before .before .before .before .pre .0
+begin-requires c κs = c .before .before .before .before .pre .0
 
-returns-3 : tie.Need-returns-3
-returns-3 c = c .begin .ensures (c .before .before .before .before .before .before .before .args .beat)
+returns-2 : tie.Need-returns-2
+returns-2 c = c .begin .ensures (c .before .before .before .before .before .args .beat)
 
 pub resume-spec : {M : Type 1} → statement M
-resume-spec = tie.close (tie.spec returns returns-2 begin-requires returns-3)
+resume-spec = tie.close (tie.spec returns begin-requires returns-2)
