@@ -4,7 +4,7 @@ ghost use Rattle.asking.specs.Fields.{beatAt};
 use crate::HELD;
 use crate::fields::i64_at;
 use crate::fields::u32_at;
-use crate::lines::more;
+use crate::writing::more;
 use beats::Beat;
 
 // Three words: the numerator's two, and the denominator.

@@ -6,10 +6,10 @@
 // once whether its words are those of the op.
 mod beat;
 mod fields;
-mod lines;
 mod lists;
 mod reading;
 pub mod refusals;
+mod writing;
 
 pub use beat::beat_at;
 pub use beat::more_beat;
@@ -18,15 +18,6 @@ pub use fields::f64_at;
 pub use fields::i64_at;
 pub use fields::u32_at;
 pub use fields::u64_at;
-pub use lines::end_line;
-pub use lines::first;
-pub use lines::flush;
-pub use lines::more;
-pub use lines::more_u32s;
-pub use lines::more_u64s;
-pub use lines::off_grid;
-pub use lines::refused;
-pub use lines::unknown;
 pub use lists::i64s;
 pub use lists::lend_i64s;
 pub use lists::lend_u32s;
@@ -44,6 +35,15 @@ pub use reading::Asked;
 pub use reading::Unread;
 pub use reading::no_question;
 pub use reading::question;
+pub use writing::end_line;
+pub use writing::first;
+pub use writing::flush;
+pub use writing::more;
+pub use writing::more_u32s;
+pub use writing::more_u64s;
+pub use writing::off_grid;
+pub use writing::refused;
+pub use writing::unknown;
 
 // Bytes of input that are held at once: a multiple of 4, so that no word lies across two chunks.
 pub const CHUNK: usize = 65536;

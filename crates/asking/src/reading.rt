@@ -5,7 +5,7 @@ ghost use lib.ListN.{getD};
 use crate::CHUNK;
 use crate::HELD;
 use crate::MOST;
-use crate::lines::unknown;
+use crate::writing::unknown;
 
 fn wide(b: u8) -> u32
     ensures { λ r. ⌜ r ≡ b ⌝ }

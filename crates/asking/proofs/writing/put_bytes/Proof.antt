@@ -2,8 +2,8 @@
 use borrow.Author.Needs.{needs}
 use Prim.Native.Nat.{_-_}
 use lib.ListN.{length}
-use Rattle.asking.proofs.lines.put_bytes.Statement.{statement}
-use Rattle.asking.proofs.lines.put_bytes.Tie as tie
+use Rattle.asking.proofs.writing.put_bytes.Statement.{statement}
+use Rattle.asking.proofs.writing.put_bytes.Tie as tie
 
 abbrev Inv-loop : tie.InvT-loop
 Inv-loop out₀ to₀ s i₀ out to i = Unit {0}
