@@ -4,6 +4,7 @@
 //   :make          reads the lines since the last command: the size of their file, which is then the
 //                  score at hand; or the line that is wrong, and why
 //   :unended       the same, without the line feed of the last line
+//   :line LINE     the same of one line, which stands behind the command
 //   :file BYTES    bytes by their hexadecimal digits are the score at hand
 //   :bytes         the bytes of the score at hand
 //   :text          the score at hand as text
@@ -45,6 +46,7 @@ fn answer(line: &[u8], text: &[u8], file: &mut [u8; LONGEST], size: &mut usize) 
     match letter(line) {
         b'm' => commands::make(text, file, size),
         b'u' => commands::make(unended(text), file, size),
+        b'l' => commands::make(behind(line, 6), file, size),
         b'f' => bytes::read(behind(line, 6), file, size),
         b'b' => bytes::write(part(file, 0, n)),
         b't' => commands::text(part(file, 0, n)),
