@@ -1,8 +1,8 @@
 // The bytes of a file by hexadecimal digits, two a byte: written by words, and read.
-use crate::commands::LONGEST;
+use score::LONGEST;
 
-// Two digits a byte.
-const MOST: usize = 39008;
+// The digits of the longest file.
+const MOST: usize = 2 * LONGEST;
 
 // A byte behind so many: four are a word, and eight words a line.
 fn behind(before: usize, byte: u8) {

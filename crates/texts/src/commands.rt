@@ -1,8 +1,6 @@
 // What each command of a session does with the score at hand, a file and its size.
 use form::FormAnswer;
-
-// The longest score file.
-pub const LONGEST: usize = 19504;
+use score::LONGEST;
 
 // The bytes from a place up to another, or none where there are not so many.
 pub fn part(bytes: &[u8], from: usize, end: usize) -> &[u8] {

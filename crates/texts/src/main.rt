@@ -14,8 +14,8 @@
 mod bytes;
 mod commands;
 
-use commands::LONGEST;
 use commands::part;
+use score::LONGEST;
 
 // One byte more than the longest session.
 const READ: usize = 131073;
@@ -41,6 +41,18 @@ fn unended(text: &[u8]) -> &[u8] {
     part(text, 0, text.len() - 1)
 }
 
+// The commands that write of the score at hand.
+fn said(letter: u8, word: &[u8], file: &[u8]) {
+    match letter {
+        b'b' => bytes::write(file),
+        b't' => commands::text(file),
+        b's' => commands::sheet(file),
+        b'c' => commands::count(file, word),
+        _ => {}
+    }
+}
+
+// Those that make another file the score at hand, and the others.
 fn answer(line: &[u8], text: &[u8], file: &mut [u8; LONGEST], size: &mut usize) {
     let n = *size;
     match letter(line) {
@@ -48,11 +60,7 @@ fn answer(line: &[u8], text: &[u8], file: &mut [u8; LONGEST], size: &mut usize) 
         b'u' => commands::make(unended(text), file, size),
         b'l' => commands::make(behind(line, 6), file, size),
         b'f' => bytes::read(behind(line, 6), file, size),
-        b'b' => bytes::write(part(file, 0, n)),
-        b't' => commands::text(part(file, 0, n)),
-        b's' => commands::sheet(part(file, 0, n)),
-        b'c' => commands::count(part(file, 0, n), behind(line, 7)),
-        _ => {}
+        other => said(other, behind(line, 7), part(file, 0, n)),
     }
 }
 
