@@ -2,8 +2,6 @@
 // nothing is written there, and standard error has the line and the reason.
 use form::FormAnswer;
 
-mod tell;
-
 // One byte more than the longest text that is read.
 const READ: usize = 131073;
 
@@ -22,7 +20,7 @@ fn answer(text: &[u8]) {
     let mut out = [0u8; 19504];
     match form::read_form(text, &mut out) {
         FormAnswer::File(size) => file(&out, size),
-        FormAnswer::Wrong(line, reason) => tell::wrong(line, reason),
+        FormAnswer::Wrong(line, reason) => telling::wrong(2, line, reason),
     }
 }
 
@@ -30,7 +28,8 @@ fn main() {
     let mut text = [0u8; READ];
     let n = io::read_full(0, &mut text);
     if n == READ {
-        tell::too_long();
+        // it may go on
+        io::write_all(2, b"the text is longer than 131072 bytes\n");
         return;
     }
     answer(&text[..n]);
