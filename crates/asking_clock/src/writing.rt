@@ -46,15 +46,16 @@ fn more_pickup(out: &mut [u8; HELD], to: &mut usize, pickup: Pickup) {
     }
 }
 
-// Zeros stand for what an off loop or an absent pickup does not have.
+// Zeros stand for what an off loop or an absent pickup does not have. What a transport can be asked
+// for is asked for, so that these calls are compared too.
 pub fn more_transport(out: &mut [u8; HELD], to: &mut usize, t: Transport) {
-    let rate = t.sample_rate;
+    let rate = t.sample_rate();
     let bpm = t.bpm;
     let beats = t.beats_per_bar;
-    let length = t.length;
-    let position = t.position;
-    let state = t.state;
-    let looping = t.looping;
+    let length = t.length_frames();
+    let position = t.position_frames();
+    let state = t.state();
+    let looping = t.loop_range();
     let pickup = t.pickup;
     let word = rounding::f32_word(bpm);
     more_three(out, to, rate as u64, word as u64, beats as u64);
