@@ -84,11 +84,12 @@ static void start(void)
     CLAIM(pulleybale_start(none, 0, 4, 2, 2, 4, &num, &den) == 1 && num == 5368709121 && den == small);
 }
 
+/* a tempo map: 120 beats a minute, and 60 from beat 5 on */
+static const int64_t at_nums[] = {0, 5};
+static const uint32_t at_dens[] = {1, 1};
+
 static void frame(void)
 {
-    /* 120 beats a minute, and 60 from beat 5 on */
-    static const int64_t at_nums[] = {0, 5};
-    static const uint32_t at_dens[] = {1, 1};
     const uint32_t tempos[] = {pulleybale_bits(120.0f), pulleybale_bits(60.0f)};
     pulleybale_clock clock = cue14();
     uint64_t at = 0;
@@ -103,9 +104,12 @@ static void frame(void)
 
 static void fill_lines(void)
 {
+    const uint32_t tempos[] = {pulleybale_bits(120.0f), pulleybale_bits(60.0f)};
     pulleybale_clock clock = cue14();
     uint64_t lines[4] = {0};
 
+    CLAIM(pulleybale_fill_lines(&clock, none, 0, at_nums, 2, at_dens, 2, tempos, 2, lines, 4) == 0);
+    CLAIM(lines[0] == 0 && lines[1] == 24000 && lines[2] == 120000 && lines[3] == 312000);
     CLAIM(pulleybale_fill_lines(&clock, none, 0, nums, 0, none, 0, none, 0, lines, 4) == 0);
     CLAIM(lines[0] == 0 && lines[1] == 24000 && lines[2] == 120000 && lines[3] == 216000);
 
@@ -134,6 +138,16 @@ static void advance(void)
     clock = looped(1001);
     CLAIM(pulleybale_advance(&clock, 0, &report) == 12 && report == 9);
     CLAIM(same(clock, looped(1001)));
+    /* words that are no clock: no such state, a loop neither off nor on, a rate that is too large */
+    clock = looped(250);
+    clock.state = 3;
+    CLAIM(pulleybale_advance(&clock, 0, &report) == 12 && report == 9 && clock.state == 3);
+    clock = looped(250);
+    clock.loop = 2;
+    CLAIM(pulleybale_advance(&clock, 0, &report) == 12 && report == 9);
+    clock = looped(250);
+    clock.rate = (uint64_t)1 << 32;
+    CLAIM(pulleybale_advance(&clock, 0, &report) == 12 && report == 9);
 }
 
 static void cues(void)
