@@ -6,6 +6,7 @@ mod cues;
 mod filler;
 mod meter;
 mod pattern;
+mod problems;
 mod tempo;
 mod transport;
 mod units;
@@ -23,6 +24,7 @@ fn main() {
         "units" => units::rows(&asked),
         "meter" => meter::rows(&asked),
         "tempo" => tempo::rows(&asked),
+        "problems" => problems::rows(&asked),
         "transport" => transport::rows(&asked),
         "pattern" => pattern::rows(&asked),
         "cues" => cues::rows(&asked),
