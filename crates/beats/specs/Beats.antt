@@ -25,6 +25,9 @@ newBeat num den = lowest num (max den 1)
 abbrev pub wholeBeat : ℤ → Beat
 wholeBeat n = record { num = n; den = 1 }
 
+abbrev pub zeroBeat : Beat
+zeroBeat = wholeBeat (pos 0)
+
 -- a beat: its denominator is not 0, and it is in lowest terms
 abbrev pub isBeat : Beat → Bool
 isBeat beat = ltb 0 (beat .den) && eqb (gcdOf (natAbs (beat .num)) (beat .den)) 1

@@ -3,8 +3,7 @@
 ghost use mathlib.Core.Path.{_≡_};
 ghost use mathlib.Core.Bool.{_&&_};
 ghost use Prim.Native.Nat.{max};
-ghost use lib.IntN.{pos};
-ghost use Rattle.beats.specs.Beats.{newBeat, isBeat, wholeBeat};
+ghost use Rattle.beats.specs.Beats.{newBeat, isBeat, wholeBeat, zeroBeat};
 ghost use Rattle.beats.specs.Sums.{addAnswer, subAnswer, mulAnswer, orderAnswer};
 ghost use Rattle.beats.specs.Frames.{floatAnswer, frameAnswer};
 ghost use Rattle.beats.specs.Steps.{stepAnswer};
@@ -77,7 +76,7 @@ impl Beat {
     }
 
     pub fn zero() -> Beat
-        ensures { λ r. ⌜ r ≡ wholeBeat (pos 0) ⌝ }
+        ensures { λ r. ⌜ r ≡ zeroBeat ⌝ }
     {
         Beat { num: 0, den: 1 }
     }

@@ -18,12 +18,12 @@ use Rattle.numbers.proofs.Laws.{by-order, both, and-right}
 use Rattle.rounding.specs.Floats.{float0}
 use Rattle.rounding.proofs.Laws.{Up, up→le}
 use Rattle.beats.specs.declared.Beat.{Beat}
-use Rattle.beats.specs.Beats.{isBeat}
+use Rattle.beats.specs.Beats.{isBeat, zeroBeat}
 use Rattle.beats.specs.Sums.{belowBeat}
 use Rattle.beats.specs.Frames.{beatFloat, framesAt}
 use Rattle.beats.proofs.Laws.{beat-above}
 use Rattle.meter.specs.Meters.{pointsOf}
-use Rattle.meter.specs.Starts.{zeroBeat, startOf, exactStart}
+use Rattle.meter.specs.Starts.{startOf, exactStart}
 use Rattle.meter.proofs.Laws.{fit-rising, fit-exact, fit-stored, start-zero}
 use Rattle.tempo.specs.declared.MapTest.the-variants.{Sound}
 use Rattle.tempo.specs.Answers.{mapTest}

@@ -14,7 +14,7 @@ use Rattle.numbers.proofs.Laws.{and-left, and-right}
 use Rattle.rounding.specs.Floats.{float0}
 use Rattle.rounding.proofs.Laws.{up→le}
 use Rattle.beats.specs.declared.Beat.{Beat}
-use Rattle.beats.specs.Beats.{isBeat, wholeBeat}
+use Rattle.beats.specs.Beats.{isBeat, zeroBeat}
 use Rattle.beats.specs.Sums.{belowBeat}
 use Rattle.beats.specs.Frames.{beatFloat}
 use Rattle.beats.proofs.Laws.{beat-above}
@@ -75,7 +75,7 @@ rises index before (num ∷ nums) (den ∷ dens) (bits ∷ tempos) p b e s =
     )
 
 -- a beat that is 0 is not before 0
-zero-at : (num : ℤ) (den : ℕ) → isZero (record { num = num; den = den }) ≡ true → belowBeat (record { num = num; den = den }) (wholeBeat (pos 0)) ≡ false
+zero-at : (num : ℤ) (den : ℕ) → isZero (record { num = num; den = den }) ≡ true → belowBeat (record { num = num; den = den }) zeroBeat ≡ false
 zero-at (pos n) den e = le-ltb (n * 1) (0 * den) (omega arith)
 zero-at (negsuc n) den e = absurd (suc-ne-zero n (eqb-true (suc n) 0 e))
 
@@ -98,6 +98,6 @@ map-rises (num ∷ nums) (den ∷ dens) (bits ∷ tempos) b e s =
     let q = placed-zero exactly at (beat-above at (and-left (isBeat at) (allBeats nums dens) b)) (and-left (smallBeat exactly at) (allSmall (listed nums dens tempos)) s) below in (
       follows float0 0 num den bits q
           (subst (λ (x : Float). T (le x (beatFloat num den))) beat-zero
-          (up→le (beatFloat (pos 0) 1) (beatFloat num den) (placed-up (wholeBeat (pos 0)) at zero-placed q below))) (left .0),
+          (up→le (beatFloat (pos 0) 1) (beatFloat num den) (placed-up zeroBeat at zero-placed q below))) (left .0),
       rises 1 at nums dens tempos q (and-right (isBeat at) (allBeats nums dens) b) (left .1) (and-right (smallBeat exactly at) (allSmall (listed nums dens tempos)) s),
     )

@@ -10,12 +10,13 @@ use lib.ListN.{length}
 use Rattle.numbers.specs.Answers.{Answer, accepted, refused, isAccepted}
 use Rattle.numbers.proofs.Laws.{by-order, and-left, and-right, never}
 use Rattle.beats.specs.declared.Beat.{Beat}
+use Rattle.beats.specs.Beats.{zeroBeat}
 use Rattle.beats.specs.Sums.{addBeats}
 use Rattle.beats.proofs.Laws.{zero-beat}
 use Rattle.meter.specs.declared.MeterPoint.{MeterPoint}
 use Rattle.meter.specs.declared.Pickup.{Pickup}
 use Rattle.meter.specs.Meters.{fallback, meterAt, lenOf, barLen, lastAt, nextChange}
-use Rattle.meter.specs.Starts.{zeroBeat, then, checkedBars, checkedSegments, checkedStart}
+use Rattle.meter.specs.Starts.{then, checkedBars, checkedSegments, checkedStart}
 use Rattle.meter.specs.Fits.{goodDen, soundFrom, firstZero, soundMap, forwardPickup, Fits}
 use Rattle.meter.proofs.Laws.{from-ascends, Rest, rest-on, rest-next, rest-meter, len-rest, checked-end, checked-more, forward-beat, forward-len}
 use Rattle.fits.specs.Decision.{lastBar, segment, reach, walked, walkFits, fitsBool}

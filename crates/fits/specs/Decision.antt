@@ -5,11 +5,12 @@ use Prim.Native.Nat.{ℕ, min, max, _-_}
 use lib.Dec.{ltb}
 use Rattle.numbers.specs.Answers.{Answer, accepted, refused, isAccepted}
 use Rattle.beats.specs.declared.Beat.{Beat}
+use Rattle.beats.specs.Beats.{zeroBeat}
 use Rattle.beats.specs.Sums.{addBeats}
 use Rattle.meter.specs.declared.MeterPoint.{MeterPoint}
 use Rattle.meter.specs.declared.Pickup.{Pickup}
 use Rattle.meter.specs.Meters.{fallback, lenOf, barLen}
-use Rattle.meter.specs.Starts.{zeroBeat, then, checkedBars}
+use Rattle.meter.specs.Starts.{then, checkedBars}
 use Rattle.meter.specs.Fits.{soundMap, forwardPickup}
 
 -- the last bar that the walk has to reach, 2^31

@@ -13,7 +13,7 @@ use borrow.Author.Tests.{leb-true, ltb-true, eqb-true}
 use Rattle.numbers.specs.Answers.{Answer, accepted, isAccepted}
 use Rattle.numbers.proofs.Laws.{by-order, up, and-left, and-right, not-negative, natural}
 use Rattle.beats.specs.declared.Beat.{Beat}
-use Rattle.beats.specs.Beats.{isBeat}
+use Rattle.beats.specs.Beats.{isBeat, zeroBeat}
 use Rattle.beats.specs.Sums.{addBeats}
 use Rattle.beats.specs.Values.{Worth}
 use Rattle.beats.proofs.Laws.{Is, is-same, scaled, added, new-is-beat, new-value, own-value, beat-above, zero-beat}
@@ -21,7 +21,7 @@ use Rattle.meter.specs.declared.MeterPoint.{MeterPoint}
 use Rattle.meter.specs.declared.Pickup.{Pickup}
 use Rattle.meter.specs.declared.Pickup.the-variants.{Absent, Present}
 use Rattle.meter.specs.Meters.{later, lastAt, fallback, meterAt, lenOf, barLen, nextChange}
-use Rattle.meter.specs.Starts.{zeroBeat, then, checkedBars, checkedSegments, checkedStart}
+use Rattle.meter.specs.Starts.{then, checkedBars, checkedSegments, checkedStart}
 use Rattle.meter.specs.Fits.{goodDen, soundFrom, firstZero, soundMap, forwardPickup, Fits, numeratorsUpTo, smallPickup}
 use Rattle.meter.proofs.Walking.{next-le, next-gt, later-in, later-out, len-rest, checked-end, checked-more}
 

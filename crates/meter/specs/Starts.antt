@@ -6,15 +6,12 @@ use lib.Dec.{ltb, leb}
 use lib.IntN.{pos}
 use Rattle.numbers.specs.Answers.{Answer, accepted, refused}
 use Rattle.beats.specs.declared.Beat.{Beat}
-use Rattle.beats.specs.Beats.{wholeBeat}
+use Rattle.beats.specs.Beats.{zeroBeat}
 use Rattle.beats.specs.Sums.{addBeats, mulBeat, orMost, sumOf}
 use Rattle.meter.specs.declared.MeterPoint.{MeterPoint}
 use Rattle.meter.specs.declared.Pickup.{Pickup}
 use Rattle.meter.specs.declared.bars.Opening.{Opening}
 use Rattle.meter.specs.Meters.{lenOf, barLen, nextChange}
-
-abbrev pub zeroBeat : Beat
-zeroBeat = wholeBeat (pos 0)
 
 -- ---- the walk, which turns a refused operation into (2^63 - 1)/1 and goes on
 

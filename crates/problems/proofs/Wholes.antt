@@ -5,12 +5,11 @@ use mathlib.Core.List.{List, [], _∷_, _++_, append-assoc}
 use Prim.Native.Nat.{ℕ, suc, _*_, _≤_}
 use native.Mathlib.Omega.{arith}
 use lib.Dec.{ltb, eqb}
-use lib.IntN.{pos}
 use lib.Ieee.{binary32, ofBits}
 use lib.ListN.{length, length-append}
 use native.Mathlib.Nat.{suc-ne-zero}
 use Rattle.beats.specs.declared.Beat.{Beat}
-use Rattle.beats.specs.Beats.{wholeBeat}
+use Rattle.beats.specs.Beats.{zeroBeat}
 use Rattle.beats.specs.Sums.{belowBeat}
 use Rattle.meter.specs.declared.MeterPoint.{MeterPoint}
 use Rattle.meter.specs.Fits.{goodDen}
@@ -71,7 +70,7 @@ tempo-from-few n index before [] = omega arith
 tempo-from-few n index before (point ∷ rest) = omega (arith, length-append (tempoAt n index before point) (tempoFrom n (suc index) (point .at) rest), tempo-at-few n index before point, tempo-from-few n (suc index) (point .at) rest)
 
 pub tempo-few : (points : List Listed) → length (tempoProblems points) ≤ 5 * length points
-tempo-few points = omega (arith, ap length (tempo-whole (wholeBeat (pos 0)) points), tempo-from-few (length points) 0 (wholeBeat (pos 0)) points)
+tempo-few points = omega (arith, ap length (tempo-whole zeroBeat points), tempo-from-few (length points) 0 zeroBeat points)
 
 meter-at-few : (n index low : ℕ) (point : MeterPoint) → length (meterAt n index low point) ≤ 5
 unfolding meterAt meterHead meterPoint
