@@ -12,8 +12,9 @@ use Rattle.beats.specs.Sums.{addBeats, mulBeat}
 use Rattle.meter.specs.declared.MeterPoint.{MeterPoint}
 use Rattle.meter.specs.Meters.{pointAt, lenOf}
 use Rattle.meter.specs.Starts.{then, checkedBars}
+use Rattle.meter.specs.Fits.{lastBar}
 use Rattle.meter.proofs.Laws.{left, points-step, points-end}
-use Rattle.fits.specs.Decision.{lastBar, segment, reach, walked}
+use Rattle.fits.specs.Decision.{segment, reach, walked}
 
 -- ---- bars of one length
 

@@ -41,11 +41,15 @@ abbrev pub forwardPickup : Pickup → Bool
 forwardPickup Absent = true
 forwardPickup (Present beat) = isBeat beat && leZ (pos 0) (beat .num)
 
+-- the last bar that a walk has to reach, 2^31
+abbrev pub lastBar : ℕ
+lastBar = 2147483648
+
 -- the map has no problems, the pickup is absent or at least 0, and no addition or scaling of the walk is refused for any bar from 0 to 2^31
 pub record Fits (map : List MeterPoint) (default : ℕ) (pickup : Pickup) : Type 0 where
   pub sound : soundMap map ≡ true
   pub forward : forwardPickup pickup ≡ true
-  pub walks : (bar : ℕ) → bar ≤ 2147483648 → isAccepted (checkedStart map default pickup bar) ≡ true
+  pub walks : (bar : ℕ) → bar ≤ lastBar → isAccepted (checkedStart map default pickup bar) ≡ true
 
 -- ---- what suffices for the last of these
 

@@ -14,7 +14,7 @@ use Rattle.meter.specs.declared.CountAnswer.the-variants.{Bars}
 use Rattle.meter.specs.Meters.{pointsOf}
 use Rattle.meter.specs.Starts.{exactStart}
 use Rattle.meter.specs.Counts.{Least}
-use Rattle.meter.specs.Fits.{Fits}
+use Rattle.meter.specs.Fits.{Fits, lastBar}
 use Rattle.meter.specs.Answers.{countAnswer}
 use Rattle.meter.specs.Readings.{readCount}
 
@@ -25,8 +25,8 @@ module _ (map : List MeterPoint) (default : ℕ) (pickup : Pickup) (beat : Beat)
 
   -- the first bar that starts at or after the beat, where bar 2^31 does; and 2^32 - 1 where it starts before the beat
   pub record FirstBar (bars : ℕ) : Type 0 where
-    pub first : arrives 2147483648 ≡ true → Least arrives bars
-    pub past : arrives 2147483648 ≡ false → bars ≡ 4294967295
+    pub first : arrives lastBar ≡ true → Least arrives bars
+    pub past : arrives lastBar ≡ false → bars ≡ 4294967295
 
 -- for the words of every score that fits and every beat, the call answers by this bar, and by nothing else
 abbrev pub CountPromise : Type 0
