@@ -22,7 +22,8 @@ use Rattle.meter.specs.declared.Pickup.{Pickup}
 use Rattle.meter.specs.declared.Pickup.the-variants.{Absent, Present}
 use Rattle.meter.specs.Meters.{later, lastAt, fallback, meterAt, lenOf, barLen, nextChange}
 use Rattle.meter.specs.Starts.{then, checkedBars, checkedSegments, checkedStart}
-use Rattle.meter.specs.Fits.{goodDen, soundFrom, firstZero, soundMap, forwardPickup, Fits, numeratorsUpTo, smallPickup}
+use Rattle.meter.specs.Fits.{goodDen, soundFrom, firstZero, soundMap, forwardPickup, numeratorsUpTo, smallPickup}
+use Rattle.meter.specs.Promise.{BoundsPromise}
 use Rattle.meter.proofs.Walking.{next-le, next-gt, later-in, later-out, len-rest, checked-end, checked-more}
 
 -- ---- the meters
@@ -177,6 +178,7 @@ module _ (map : List MeterPoint) (default : ℕ) (sound : soundMap map ≡ true)
       sure-start (beat .den) 262144 (2 ^ 56) (room (beat .den) (beat-above beat fine) d) map default (Present beat) (λ j. meters j .den) size
       (u * 16) bar (record { fine = fine; value = subst (λ (k : ℕ). Worth beat (pos (u * 16)) k) (mul-comm (beat .den) 16) o }) h (omega arith)
 
-  -- a score within the bounds fits
-  pub suffices : (pickup : Pickup) → forwardPickup pickup ≡ true → smallPickup pickup ≡ true → Fits map default pickup
-  suffices pickup s t = record { sound = sound; forward = s; walks = walks pickup s t }
+-- a score within the bounds fits
+pub suffices : BoundsPromise
+suffices map default pickup sound forward numerators small few =
+    record { sound = sound; forward = forward; walks = walks map default sound numerators small pickup forward few }

@@ -1,8 +1,9 @@
--- What the count promises of a score that fits, in plain sums: no walk, no saturation and no search stands in these definitions.
+-- What is promised beyond each call's equation: what the count is for a score that fits, in plain sums (no walk, no saturation and no search stands in these definitions), and bounds
+-- within which a score fits.
 use mathlib.Core.Bool.{Bool, true, false, not}
 use mathlib.Core.Path.{_≡_}
 use mathlib.Core.List.{List}
-use Prim.Native.Nat.{ℕ, _%_}
+use Prim.Native.Nat.{ℕ, _≤_, _%_}
 use lib.ListN.{length}
 use Rattle.beats.specs.declared.Beat.{Beat}
 use Rattle.beats.specs.Beats.{isBeat}
@@ -14,7 +15,7 @@ use Rattle.meter.specs.declared.CountAnswer.the-variants.{Bars}
 use Rattle.meter.specs.Meters.{pointsOf}
 use Rattle.meter.specs.Starts.{exactStart}
 use Rattle.meter.specs.Counts.{Least}
-use Rattle.meter.specs.Fits.{Fits, lastBar}
+use Rattle.meter.specs.Fits.{soundMap, forwardPickup, lastBar, Fits, numeratorsUpTo, smallPickup}
 use Rattle.meter.specs.Answers.{countAnswer}
 use Rattle.meter.specs.Readings.{readCount}
 
@@ -38,3 +39,14 @@ CountPromise =
     → (answer : CountAnswer)
     → readCount answer ≡ countAnswer words default pickup beat
     → (bars : ℕ) × ((answer ≡ Bars bars) × FirstBar (pointsOf words) default pickup beat bars)
+
+-- numerators and default at most 4,096, and a pickup of at most 2^45 with a denominator of at most 64: of a map without problems and a pickup that is not below 0, such a score fits
+abbrev pub BoundsPromise : Type 0
+BoundsPromise =
+    (map : List MeterPoint) (default : ℕ) (pickup : Pickup)
+    → soundMap map ≡ true
+    → forwardPickup pickup ≡ true
+    → numeratorsUpTo 4096 map ≡ true
+    → default ≤ 4096
+    → smallPickup pickup ≡ true
+    → Fits map default pickup
