@@ -119,7 +119,8 @@ impl Beat {
         sums::sub(self, b)
     }
 
-    // Scaled by num / den, which need not be in lowest terms; a denominator 0 counts as 1.
+    // Scaled by num / den, which need not be in lowest terms. By n/0 the product's denominator is 0,
+    // which becomes 1: 1/2 by 3/0 is 3/1.
     pub fn mul_rational(self, num: i64, den: u32) -> BeatAnswer
         ensures { λ r. ⌜ readBeat r ≡ mulAnswer self num den ⌝ }
     {
@@ -146,7 +147,7 @@ impl Beat {
         OrderAnswer::Stands(sums::order(self, b))
     }
 
-    // num / den as a float, rounded once.
+    // The numerator as the nearest float, divided by the denominator: each rounded once.
     pub fn to_f64(self) -> FloatAnswer
         ensures { λ r. ⌜ readFloat r ≡ floatAnswer self ⌝ }
     {

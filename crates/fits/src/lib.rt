@@ -1,6 +1,7 @@
 // Whether a score fits: its meter map has no problems, its pickup is not below 0, and no addition
 // or scaling of the walk over its bars is refused up to bar 2^31. This is the call with its
-// refusals, 3, 4 and 1 in this order; crates above, which have tested their map, call `deciding`.
+// refusals, 3, 4 and 1 in this order; crates above, which have tested their pickup, call
+// `deciding`.
 use meter::Pickup;
 ghost use mathlib.Core.Path.{_≡_};
 ghost use Rattle.fits.specs.Answers.{fitsAnswer};

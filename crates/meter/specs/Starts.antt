@@ -23,7 +23,6 @@ afterBars at len n = orMost (addBeats at (orMost (mulBeat len (pos n) 1)))
 unfoldable pub ending : ℕ → ℕ → MeterPoint → Beat → Beat
 ending bar end meter at = cond (ltb bar end) (afterBars at (lenOf meter) (end - bar)) at
 
--- what a score is made of is bound once for all that follows
 module _ (map : List MeterPoint) (default : ℕ) (pickup : Pickup) where
   -- from a bar, which starts at `at`, to the start of the bar `end`: the bars up to the next change are one segment.
   -- The first argument bounds the number of segments

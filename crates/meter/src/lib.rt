@@ -112,7 +112,7 @@ pub fn beat_at_bar(words: &[u32], default: u32, pickup: Pickup, bar: u32) -> Bar
 }
 
 // How many bars have gone by at a beat: for a score that fits, the first bar that starts at or
-// after it.
+// after it, or 4,294,967,295 where bar 2^31 still starts before it.
 pub fn bar_count_at_beat(words: &[u32], default: u32, pickup: Pickup, beat: Beat) -> CountAnswer
     ensures { λ r. ⌜ readCount r ≡ countAnswer (now (words .entry)) default pickup beat ⌝ }
 {
