@@ -1,11 +1,11 @@
 -- The calls: 3, 4, 1 and 8 are tested in this order, all before the first word is written.
 use mathlib.Core.Bool.{cond}
-use mathlib.Core.List.{List, [], _++_}
-use Prim.Native.Nat.{ℕ, _*_}
+use mathlib.Core.List.{List, []}
+use Prim.Native.Nat.{ℕ}
 use lib.Dec.{leb}
 use lib.IntN.{ℤ}
-use lib.ListN.{length, drop}
-use Rattle.numbers.specs.Answers.{Answer, accepted, refused, given}
+use lib.ListN.{length}
+use Rattle.numbers.specs.Answers.{Answer, accepted, refused, given, over}
 use Rattle.meter.specs.declared.MeterPoint.{MeterPoint}
 use Rattle.tempo.specs.Answers.{mapTest, ifSound}
 use Rattle.problems.specs.Problems.{Problem, meterProblems, listed, tempoProblems, flat, roomFor}
@@ -16,7 +16,7 @@ counted problems out = cond (roomFor problems out) (accepted (length problems)) 
 
 -- the words afterwards: the records first, and later words kept; a refusal changes none
 abbrev pub after : List Problem → Answer ℕ → List ℕ → List ℕ
-after problems answer out = given (λ count. flat problems ++ drop (3 * length problems) out) answer out
+after problems answer out = given (λ count. over (flat problems) out) answer out
 
 -- ---- a meter map: 4, 8
 
