@@ -13,7 +13,7 @@ use Rattle.beats.specs.Beats.{zeroBeat}
 use Rattle.beats.specs.Sums.{belowBeat}
 use Rattle.meter.specs.declared.MeterPoint.{MeterPoint}
 use Rattle.meter.specs.Fits.{goodDen}
-use Rattle.problems.specs.Problems.{Problem, Listed, problemIf, meterPoint, meterPoints, meterProblems, soundTempo, tempoBits, tempoPointsAfter, isZero, tempoProblems}
+use Rattle.problems.specs.Problems.{Problem, Listed, problemIf, meterPoint, meterPoints, meterProblems, soundTempo, tempoBits, tempoPointsAfter, isZero, tempoProblems, manyMeters, laterBar, notAbove, manyTempos, laterBeat}
 use Rattle.problems.specs.Passes.{tempoFirst, tempoLater, tempoAt, tempoFrom, meterHead, meterAt, meterFrom}
 use Rattle.problems.proofs.Points.{head-later, tempo-later}
 
@@ -24,8 +24,8 @@ unfolding tempoFrom tempoLater tempoPointsAfter
 tempo-after n index before [] = refl
 tempo-after n index before (point ∷ rest) =
     ap (λ (l : List Problem). l ++ tempoFrom n (suc (suc index)) (point .at) rest) (tempo-later n (suc index) before point (suc-ne-zero index))
-    ∙ append-assoc (tempoBits (suc index) point) (problemIf (not (belowBeat before (point .at))) 9 (suc index) 0) (tempoFrom n (suc (suc index)) (point .at) rest)
-    ∙ ap (λ (l : List Problem). tempoBits (suc index) point ++ (problemIf (not (belowBeat before (point .at))) 9 (suc index) 0 ++ l)) (tempo-after n (suc index) (point .at) rest)
+    ∙ append-assoc (tempoBits (suc index) point) (notAbove (suc index) before (point .at)) (tempoFrom n (suc (suc index)) (point .at) rest)
+    ∙ ap (λ (l : List Problem). tempoBits (suc index) point ++ (notAbove (suc index) before (point .at) ++ l)) (tempo-after n (suc index) (point .at) rest)
 
 pub tempo-whole : (before : Beat) (points : List Listed) → tempoFrom (length points) 0 before points ≡ tempoProblems points
 unfolding tempoFrom tempoAt tempoFirst tempoProblems
@@ -61,8 +61,8 @@ unfolding tempoAt tempoFirst tempoLater
 tempo-at-few n index before point = by-place (eqb index 0)
   where
     by-place : (first : Bool) → length (cond first (tempoFirst n point) (tempoLater index before point)) ≤ 5
-    by-place true = omega (arith, length-append (problemIf (ltb 1024 n) 6 0 n) (problemIf (not (isZero (point .at))) 7 0 0 ++ tempoBits 0 point), length-append (problemIf (not (isZero (point .at))) 7 0 0) (tempoBits 0 point), when-few (ltb 1024 n) 6 0 n, when-few (not (isZero (point .at))) 7 0 0, tempo-bits-few 0 point)
-    by-place false = omega (arith, length-append (tempoBits index point) (problemIf (not (belowBeat before (point .at))) 9 index 0), tempo-bits-few index point, when-few (not (belowBeat before (point .at))) 9 index 0)
+    by-place true = omega (arith, length-append (manyTempos n) (laterBeat (point .at) ++ tempoBits 0 point), length-append (laterBeat (point .at)) (tempoBits 0 point), when-few (ltb 1024 n) 6 0 n, when-few (not (isZero (point .at))) 7 0 0, tempo-bits-few 0 point)
+    by-place false = omega (arith, length-append (tempoBits index point) (notAbove index before (point .at)), tempo-bits-few index point, when-few (not (belowBeat before (point .at))) 9 index 0)
 
 tempo-from-few : (n index : ℕ) (before : Beat) (points : List Listed) → length (tempoFrom n index before points) ≤ 5 * length points
 unfolding tempoFrom
@@ -86,8 +86,8 @@ meter-at-few n index low point =
       when-few (ltb (point .bar) low) 5 index 0,
     )
   where
-    by-place : (first : Bool) → length (cond first (problemIf (ltb 256 n) 1 0 n ++ problemIf (not (eqb (point .bar) 0)) 2 0 0) []) ≤ 2
-    by-place true = omega (arith, length-append (problemIf (ltb 256 n) 1 0 n) (problemIf (not (eqb (point .bar) 0)) 2 0 0), when-few (ltb 256 n) 1 0 n, when-few (not (eqb (point .bar) 0)) 2 0 0)
+    by-place : (first : Bool) → length (cond first (manyMeters n ++ laterBar (point .bar)) []) ≤ 2
+    by-place true = omega (arith, length-append (manyMeters n) (laterBar (point .bar)), when-few (ltb 256 n) 1 0 n, when-few (not (eqb (point .bar) 0)) 2 0 0)
     by-place false = omega arith
 
 meter-from-few : (n index low : ℕ) (points : List MeterPoint) → length (meterFrom n index low points) ≤ 5 * length points
