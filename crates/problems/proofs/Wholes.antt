@@ -14,7 +14,7 @@ use Rattle.beats.specs.Sums.{belowBeat}
 use Rattle.meter.specs.declared.MeterPoint.{MeterPoint}
 use Rattle.meter.specs.Fits.{goodDen}
 use Rattle.problems.specs.Problems.{Problem, Listed, problemIf, meterPoint, meterPoints, meterProblems, soundTempo, tempoBits, tempoPointsAfter, isZero, tempoProblems, manyMeters, laterBar, notAbove, manyTempos, laterBeat}
-use Rattle.problems.specs.Passes.{tempoFirst, tempoLater, tempoAt, tempoFrom, meterHead, meterAt, meterFrom}
+use Rattle.problems.specs.Passes.{tempoFirst, tempoLater, tempoAt, tempoFrom, meterHead, recordsAt, meterFrom}
 use Rattle.problems.proofs.Points.{head-later, tempo-later}
 
 -- ---- a tempo map
@@ -35,14 +35,14 @@ tempo-whole before (point ∷ rest) = simp (append-assoc, tempo-after (length (p
 -- ---- a meter map
 
 meter-after : (n index low : ℕ) (points : List MeterPoint) → meterFrom n (suc index) low points ≡ meterPoints (suc index) low points
-unfolding meterFrom meterAt meterPoints
+unfolding meterFrom recordsAt meterPoints
 meter-after n index low [] = refl
 meter-after n index low (point ∷ rest) =
     ap (λ (l : List Problem). (l ++ meterPoint (suc index) low point) ++ meterFrom n (suc (suc index)) (suc (point .bar)) rest) (head-later n (suc index) (point .bar) (suc-ne-zero index))
     ∙ ap (λ (l : List Problem). meterPoint (suc index) low point ++ l) (meter-after n (suc index) (suc (point .bar)) rest)
 
 pub meter-whole : (points : List MeterPoint) → meterFrom (length points) 0 0 points ≡ meterProblems points
-unfolding meterFrom meterAt meterHead meterProblems meterPoints
+unfolding meterFrom recordsAt meterHead meterProblems meterPoints
 meter-whole [] = refl
 meter-whole (point ∷ rest) = simp (append-assoc, meter-after (length (point ∷ rest)) 0 (suc (point .bar)) rest)
 
@@ -72,8 +72,8 @@ tempo-from-few n index before (point ∷ rest) = omega (arith, length-append (te
 pub tempo-few : (points : List Listed) → length (tempoProblems points) ≤ 5 * length points
 tempo-few points = omega (arith, ap length (tempo-whole zeroBeat points), tempo-from-few (length points) 0 zeroBeat points)
 
-meter-at-few : (n index low : ℕ) (point : MeterPoint) → length (meterAt n index low point) ≤ 5
-unfolding meterAt meterHead meterPoint
+meter-at-few : (n index low : ℕ) (point : MeterPoint) → length (recordsAt n index low point) ≤ 5
+unfolding recordsAt meterHead meterPoint
 meter-at-few n index low point =
     omega (
       arith,
@@ -93,7 +93,7 @@ meter-at-few n index low point =
 meter-from-few : (n index low : ℕ) (points : List MeterPoint) → length (meterFrom n index low points) ≤ 5 * length points
 unfolding meterFrom
 meter-from-few n index low [] = omega arith
-meter-from-few n index low (point ∷ rest) = omega (arith, length-append (meterAt n index low point) (meterFrom n (suc index) (suc (point .bar)) rest), meter-at-few n index low point, meter-from-few n (suc index) (suc (point .bar)) rest)
+meter-from-few n index low (point ∷ rest) = omega (arith, length-append (recordsAt n index low point) (meterFrom n (suc index) (suc (point .bar)) rest), meter-at-few n index low point, meter-from-few n (suc index) (suc (point .bar)) rest)
 
 pub meter-few : (points : List MeterPoint) → length (meterProblems points) ≤ 5 * length points
 meter-few points = omega (arith, ap length (meter-whole points), meter-from-few (length points) 0 0 points)

@@ -20,16 +20,16 @@ after problems answer out = given (λ count. over (flat problems) out) answer ou
 
 -- ---- a meter map: 4, 8
 
-abbrev pub meterAnswer : List MeterPoint → List ℕ → Answer ℕ
-meterAnswer map out = cond (leb (length map) 65536) (counted (meterProblems map) out) (refused 4 [])
+abbrev pub meterProblemsAnswer : List MeterPoint → List ℕ → Answer ℕ
+meterProblemsAnswer map out = cond (leb (length map) 65536) (counted (meterProblems map) out) (refused 4 [])
 
 abbrev pub meterAfter : List MeterPoint → List ℕ → List ℕ
-meterAfter map out = after (meterProblems map) (meterAnswer map out) out
+meterAfter map out = after (meterProblems map) (meterProblemsAnswer map out) out
 
 -- ---- a tempo map: 3, 4, 1, 8
 
-abbrev pub tempoAnswer : List ℤ → List ℕ → List ℕ → List ℕ → Answer ℕ
-tempoAnswer nums dens tempos out = ifSound (mapTest nums dens tempos) (counted (tempoProblems (listed nums dens tempos)) out)
+abbrev pub tempoProblemsAnswer : List ℤ → List ℕ → List ℕ → List ℕ → Answer ℕ
+tempoProblemsAnswer nums dens tempos out = ifSound (mapTest nums dens tempos) (counted (tempoProblems (listed nums dens tempos)) out)
 
 abbrev pub tempoAfter : List ℤ → List ℕ → List ℕ → List ℕ → List ℕ
-tempoAfter nums dens tempos out = after (tempoProblems (listed nums dens tempos)) (tempoAnswer nums dens tempos out) out
+tempoAfter nums dens tempos out = after (tempoProblems (listed nums dens tempos)) (tempoProblemsAnswer nums dens tempos out) out

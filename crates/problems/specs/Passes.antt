@@ -62,13 +62,13 @@ pointOf bar numerator denominator = record { bar = bar; numerator = numerator; d
 unfoldable pub meterHead : ℕ → ℕ → ℕ → List Problem
 meterHead n index bar = cond (eqb index 0) (manyMeters n ++ laterBar bar) []
 
-unfoldable pub meterAt : ℕ → ℕ → ℕ → MeterPoint → List Problem
-meterAt n index low point = meterHead n index (point .bar) ++ meterPoint index low point
+unfoldable pub recordsAt : ℕ → ℕ → ℕ → MeterPoint → List Problem
+recordsAt n index low point = meterHead n index (point .bar) ++ meterPoint index low point
 
 -- each point from an index on
 unfoldable pub meterFrom : ℕ → ℕ → ℕ → List MeterPoint → List Problem
 meterFrom n index low [] = []
-meterFrom n index low (point ∷ rest) = meterAt n index low point ++ meterFrom n (suc index) (suc (point .bar)) rest
+meterFrom n index low (point ∷ rest) = recordsAt n index low point ++ meterFrom n (suc index) (suc (point .bar)) rest
 
 -- ---- the walk over meter points
 
@@ -89,7 +89,7 @@ turned s count bar =
 
 -- the records of the point that the walk stands at
 abbrev pub here : State → MeterPoint → List Problem
-here s point = meterAt (s .n) (s .at) (s .low) point
+here s point = recordsAt (s .n) (s .at) (s .low) point
 
 abbrev pub stepped : State → MeterPoint → State
 stepped s point = turned s (s .count + length (here s point)) (point .bar)

@@ -6,7 +6,7 @@ use meter::bars::good_denominator;
 ghost use mathlib.Core.Path.{_≡_};
 ghost use Prim.Native.Nat.{_<_};
 ghost use Rattle.problems.specs.Problems.{meterPoint};
-ghost use Rattle.problems.specs.Passes.{Ready, Passed, Walks, put, pointOf, meterHead, meterAt, begun, restarts, turned, here, stepped, finished};
+ghost use Rattle.problems.specs.Passes.{Ready, Passed, Walks, put, pointOf, meterHead, recordsAt, begun, restarts, turned, here, stepped, finished};
 ghost use Rattle.problems.specs.Readings.{readProblems};
 
 // Where the walk stands among n points, which pass it is, and the records so far of those that
@@ -63,8 +63,8 @@ fn records_at(
     numerator: u32,
     denominator: u32,
 ) -> u32
-    requires { ⌜ Ready (s .writing) (now out) (s .count) (meterAt n index (s .low) (pointOf bar numerator denominator)) ⌝ }
-    ensures { λ r. ⌜ Passed (s .writing) (now (out .entry)) (s .count) (meterAt n index (s .low) (pointOf bar numerator denominator)) (now (out .exit)) r ⌝ }
+    requires { ⌜ Ready (s .writing) (now out) (s .count) (recordsAt n index (s .low) (pointOf bar numerator denominator)) ⌝ }
+    ensures { λ r. ⌜ Passed (s .writing) (now (out .entry)) (s .count) (recordsAt n index (s .low) (pointOf bar numerator denominator)) (now (out .exit)) r ⌝ }
 {
     let writing = s.writing;
     let a = head(out, writing, s.count, n, index, bar);
