@@ -8,7 +8,7 @@ use native.Mathlib.Omega.{arith}
 use lib.IntN.{ℤ}
 use lib.ListN.{length, getD, drop, drop-of-length-le}
 use Rattle.beats.specs.declared.Beat.{Beat}
-use Rattle.tempo.specs.Answers.{SoundMap}
+use Rattle.tempo.specs.Answers.{Walkable}
 use Rattle.problems.specs.Problems.{Listed, listed, tempoProblems}
 use Rattle.problems.specs.Passes.{listedAt, beatAt, tempoAt, tempoFrom}
 use Rattle.problems.proofs.Wholes.{tempo-whole}
@@ -33,7 +33,7 @@ listed-next (num ∷ nums) (den ∷ dens) (bits ∷ tempos) d t zero h = refl
 listed-next (num ∷ nums) (den ∷ dens) (bits ∷ tempos) d t (suc i) h = listed-next nums dens tempos (omega arith) (omega arith) i (le-of-suc-le-suc h)
 
 -- the records of a tempo map, point by point
-module _ (nums : List ℤ) (dens tempos : List ℕ) (map : SoundMap nums dens tempos) where
+module _ (nums : List ℤ) (dens tempos : List ℕ) (map : Walkable nums dens tempos) where
   pub tempo-all : (before : Beat) → tempoFrom (length nums) 0 before (listed nums dens tempos) ≡ tempoProblems (listed nums dens tempos)
   tempo-all before =
       ap (λ (n : ℕ). tempoFrom n 0 before (listed nums dens tempos)) (sym (listed-length nums dens tempos (map .even-dens) (map .even-tempos)))

@@ -7,7 +7,7 @@ use lib.IntN.{ℤ}
 use lib.ListN.{length}
 use Rattle.numbers.specs.Answers.{Answer, accepted, refused, given, over}
 use Rattle.meter.specs.declared.MeterPoint.{MeterPoint}
-use Rattle.tempo.specs.Answers.{mapTest, ifSound}
+use Rattle.tempo.specs.Answers.{mapTest, ifWalkable}
 use Rattle.problems.specs.Problems.{Problem, meterProblems, listed, tempoProblems, flat, roomFor}
 
 -- the count of the problems; 8 where there is no room for them
@@ -29,7 +29,7 @@ meterAfter map out = after (meterProblems map) (meterProblemsAnswer map out) out
 -- ---- a tempo map: 3, 4, 1, 8
 
 abbrev pub tempoProblemsAnswer : List ℤ → List ℕ → List ℕ → List ℕ → Answer ℕ
-tempoProblemsAnswer nums dens tempos out = ifSound (mapTest nums dens tempos) (counted (tempoProblems (listed nums dens tempos)) out)
+tempoProblemsAnswer nums dens tempos out = ifWalkable (mapTest nums dens tempos) (counted (tempoProblems (listed nums dens tempos)) out)
 
 abbrev pub tempoAfter : List ℤ → List ℕ → List ℕ → List ℕ → List ℕ
 tempoAfter nums dens tempos out = after (tempoProblems (listed nums dens tempos)) (tempoProblemsAnswer nums dens tempos out) out

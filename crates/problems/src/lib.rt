@@ -32,7 +32,7 @@ pub fn tempo_map_problems(
         MapTest::Uneven => ProblemsAnswer::Uneven,
         MapTest::TooLong => ProblemsAnswer::TooLong,
         MapTest::NotBeat => ProblemsAnswer::NotBeat,
-        MapTest::Sound => changes::list(nums, dens, tempos, out),
+        MapTest::Fine => changes::list(nums, dens, tempos, out),
     }
 }
 

@@ -20,7 +20,7 @@ pub enum TempoAnswer {
 
 // What a map's test finds.
 pub enum MapTest {
-    Sound,
+    Fine,
     Uneven,
     TooLong,
     NotBeat,
@@ -59,7 +59,7 @@ pub fn test(nums: &[i64], dens: &[u32], tempos: &[u32]) -> MapTest
         return MapTest::TooLong;
     }
     if all_beats(nums, dens) {
-        MapTest::Sound
+        MapTest::Fine
     } else {
         MapTest::NotBeat
     }
@@ -73,7 +73,7 @@ pub fn tempo_map_seconds_at(nums: &[i64], dens: &[u32], tempos: &[u32], beat: f6
         MapTest::Uneven => TempoAnswer::Uneven,
         MapTest::TooLong => TempoAnswer::TooLong,
         MapTest::NotBeat => TempoAnswer::NotBeat,
-        MapTest::Sound => {
+        MapTest::Fine => {
             if nums.len() == 0 {
                 TempoAnswer::Empty
             } else {
@@ -91,7 +91,7 @@ pub fn tempo_map_bpm_at(nums: &[i64], dens: &[u32], tempos: &[u32], beat: f64) -
         MapTest::Uneven => TempoAnswer::Uneven,
         MapTest::TooLong => TempoAnswer::TooLong,
         MapTest::NotBeat => TempoAnswer::NotBeat,
-        MapTest::Sound => {
+        MapTest::Fine => {
             if nums.len() == 0 {
                 TempoAnswer::Empty
             } else {
@@ -114,7 +114,7 @@ pub fn tempo_map_beat_at_seconds(
         MapTest::Uneven => TempoAnswer::Uneven,
         MapTest::TooLong => TempoAnswer::TooLong,
         MapTest::NotBeat => TempoAnswer::NotBeat,
-        MapTest::Sound => {
+        MapTest::Fine => {
             if nums.len() == 0 {
                 TempoAnswer::Empty
             } else {

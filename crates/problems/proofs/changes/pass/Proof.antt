@@ -3,7 +3,7 @@ use native.Mathlib.Omega.{arith}
 use mathlib.Core.Path.{_≡_, refl}
 use Prim.Native.Nat.{_+_, _≤_, _-_}
 use lib.ListN.{length, drop}
-use Rattle.tempo.specs.Answers.{SoundMap}
+use Rattle.tempo.specs.Answers.{Walkable}
 use Rattle.problems.specs.Problems.{listed, tempoProblems}
 use Rattle.problems.specs.Passes.{Ready, beatAt, tempoAt, tempoFrom}
 use Rattle.problems.proofs.Listing.{listedPoint, tempo-all, tempo-next, tempo-end}
@@ -13,7 +13,7 @@ use Rattle.problems.proofs.changes.pass.Statement.{statement}
 use Rattle.problems.proofs.changes.pass.Tie as tie
 
 abbrev Inv-loop : tie.InvT-loop
-Inv-loop nums dens tempos out₀ writing n before₀ count₀ i₀ out before count i = SoundMap nums dens tempos × (n ≡ length nums) × (i ≤ n) × Ready writing out₀ 0 (tempoProblems (listed nums dens tempos)) × Passing writing out₀ out count (tempoFrom n i before (drop i (listed nums dens tempos))) (tempoProblems (listed nums dens tempos))
+Inv-loop nums dens tempos out₀ writing n before₀ count₀ i₀ out before count i = Walkable nums dens tempos × (n ≡ length nums) × (i ≤ n) × Ready writing out₀ 0 (tempoProblems (listed nums dens tempos)) × Passing writing out₀ out count (tempoFrom n i before (drop i (listed nums dens tempos))) (tempoProblems (listed nums dens tempos))
 
 abbrev μ-loop : tie.MeasureT-loop
 μ-loop nums dens tempos out₀ writing n before₀ count₀ i₀ out before count i = n - i
