@@ -28,8 +28,15 @@ meterAfter map out = after (meterProblems map) (meterProblemsAnswer map out) out
 
 -- ---- a tempo map: 3, 4, 1, 8
 
+-- the answer and the words of one that can be walked
+abbrev pub walkableAnswer : List ℤ → List ℕ → List ℕ → List ℕ → Answer ℕ
+walkableAnswer nums dens tempos out = counted (tempoProblems (listed nums dens tempos)) out
+
+abbrev pub walkableAfter : List ℤ → List ℕ → List ℕ → List ℕ → List ℕ
+walkableAfter nums dens tempos out = after (tempoProblems (listed nums dens tempos)) (walkableAnswer nums dens tempos out) out
+
 abbrev pub tempoProblemsAnswer : List ℤ → List ℕ → List ℕ → List ℕ → Answer ℕ
-tempoProblemsAnswer nums dens tempos out = ifWalkable (mapTest nums dens tempos) (counted (tempoProblems (listed nums dens tempos)) out)
+tempoProblemsAnswer nums dens tempos out = ifWalkable (mapTest nums dens tempos) (walkableAnswer nums dens tempos out)
 
 abbrev pub tempoAfter : List ℤ → List ℕ → List ℕ → List ℕ → List ℕ
 tempoAfter nums dens tempos out = after (tempoProblems (listed nums dens tempos)) (tempoProblemsAnswer nums dens tempos out) out
