@@ -19,27 +19,32 @@ pub struct Beat {
     pub den: u32,
 }
 
+// A beat, or what refuses it: NotBeat 1, Overflow 2.
 pub enum BeatAnswer {
     Done(Beat),
     NotBeat,
     Overflow,
 }
 
+// An order, or NotBeat: 1.
 pub enum OrderAnswer {
     Stands(Order),
     NotBeat,
 }
 
+// A float, or NotBeat: 1.
 pub enum FloatAnswer {
     Value(f64),
     NotBeat,
 }
 
+// A frame, or NotBeat: 1.
 pub enum FrameAnswer {
     Frame(u64),
     NotBeat,
 }
 
+// A step, or what refuses it: NotBeat 1, OffGrid 7.
 pub enum StepAnswer {
     Step(u32),
     NotBeat,
@@ -53,6 +58,7 @@ fn positive(den: u32) -> u32
     if den == 0 { 1 } else { den }
 }
 
+// Whether both are beats.
 fn both_beats(a: Beat, b: Beat) -> bool
     ensures { λ r. ⌜ r ≡ isBeat a && isBeat b ⌝ }
 {
@@ -75,6 +81,7 @@ impl Beat {
         }
     }
 
+    // The beat 0/1.
     pub fn zero() -> Beat
         ensures { λ r. ⌜ r ≡ zeroBeat ⌝ }
     {
@@ -101,6 +108,7 @@ impl Beat {
         }
     }
 
+    // The exact sum; 2 where it is too wide before it is reduced.
     pub fn checked_add(self, b: Beat) -> BeatAnswer
         ensures { λ r. ⌜ readBeat r ≡ addAnswer self b ⌝ }
     {
@@ -110,6 +118,7 @@ impl Beat {
         sums::add(self, b)
     }
 
+    // The exact difference; 2 where it is too wide before it is reduced.
     pub fn checked_sub(self, b: Beat) -> BeatAnswer
         ensures { λ r. ⌜ readBeat r ≡ subAnswer self b ⌝ }
     {

@@ -11,6 +11,7 @@ pub mod deciding;
 mod sound;
 mod walk;
 
+// Whether it fits, or what refuses it: Uneven 3, TooLong 4, NotBeat 1.
 pub enum FitsAnswer {
     Fits,
     DoesNot,
@@ -26,7 +27,7 @@ pub fn fits(words: &[u32], default: u32, pickup: Pickup) -> FitsAnswer
     if words.len() % 3 != 0 {
         return FitsAnswer::Uneven;
     }
-    if words.len() > 196_608 {
+    if words.len() > meter::MOST_WORDS {
         return FitsAnswer::TooLong;
     }
     if !pickup.is_sound() {

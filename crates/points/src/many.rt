@@ -9,8 +9,8 @@ ghost use Rattle.meter.specs.Meters.{pointsOf};
 ghost use Rattle.problems.specs.Answers.{meterProblemsAnswer, meterAfter};
 ghost use Rattle.problems.specs.Readings.{readProblems};
 
-// One more than the 65,536 points of a map that is not too long: the call over points is lent one
-// too many too, and refuses by 4 itself.
+// One more than the 65,536 points of a map that is not too long, so that the call over points can
+// be lent one point too many, and itself refuses by 4.
 pub const MOST: usize = 65537;
 
 // The array that begins with the points of the words.

@@ -10,6 +10,7 @@ mod changes;
 mod records;
 mod walk;
 
+// How many problems there are, or what refuses them: Uneven 3, TooLong 4, NotBeat 1, NoRoom 8.
 pub enum ProblemsAnswer {
     Problems(u32),
     Uneven,

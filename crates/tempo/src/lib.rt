@@ -10,6 +10,7 @@ use beats::Beat;
 
 pub mod walks;
 
+// What a walk gives, or what refuses it: Uneven 3, TooLong 4, NotBeat 1, Empty 5.
 pub enum TempoAnswer {
     Value(f64),
     Uneven,
@@ -18,7 +19,8 @@ pub enum TempoAnswer {
     Empty,
 }
 
-// What a map's test finds.
+// What a map's test finds: that it can be walked, whatever problems it has; or Uneven 3, TooLong 4,
+// NotBeat 1.
 pub enum MapTest {
     Fine,
     Uneven,

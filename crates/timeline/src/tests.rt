@@ -29,7 +29,7 @@ pub fn words_test(words: &[u32]) -> MapTest
     if words.len() % 3 != 0 {
         return MapTest::Uneven;
     }
-    if words.len() > 196_608 {
+    if words.len() > meter::MOST_WORDS {
         return MapTest::TooLong;
     }
     MapTest::Fine
