@@ -13,7 +13,7 @@ use Rattle.numbers.specs.declared.exact.Order.the-variants.{Less, Equal, Greate
 use Rattle.numbers.specs.Answers.{accepted}
 use Rattle.numbers.proofs.Laws.{cases, not-both, factor-zero, up, down, natural, up-times, down-times, sum-times, gcd-of-zero, isLess, less-is, turned}
 use Rattle.beats.specs.declared.Beat.{Beat}
-use Rattle.beats.specs.Beats.{newBeat, isBeat, wholeBeat}
+use Rattle.beats.specs.Beats.{newBeat, isBeat, zeroBeat}
 use Rattle.beats.specs.Sums.{fitted, addBeats, mulBeat, sumOf, orderOfBeats, belowBeat}
 use Rattle.beats.specs.Values.{Worth}
 use Rattle.beats.proofs.Lowest.{den-divides}
@@ -38,7 +38,7 @@ module _ (beat : Beat) (n d : ℕ) (above : 0 < d) (v : Worth beat (pos n) d) wh
 
 -- ---- sums of any size
 
-pub zero-beat : isBeat (wholeBeat (pos 0)) ≡ true
+pub zero-beat : isBeat zeroBeat ≡ true
 zero-beat = ap (λ (n : ℕ). true && eqb n 1) (gcd-of-zero 1 (omega arith))
 
 module _ (a b : Beat) where

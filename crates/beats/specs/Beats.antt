@@ -10,12 +10,12 @@ use Rattle.numbers.specs.Divisor.{gcdOf}
 use Rattle.beats.specs.declared.Beat.{Beat}
 
 -- num and den, each divided by the divisor
-abbrev pub over : ℤ → ℕ → ℕ → Beat
-over num den divisor = record { num = quotZ num (pos divisor); den = den / divisor }
+abbrev pub dividedBy : ℤ → ℕ → ℕ → Beat
+dividedBy num den divisor = record { num = quotZ num (pos divisor); den = den / divisor }
 
 -- num / den in lowest terms: both are divided by their greatest common divisor. (0 / den comes out as 0 / 1, since the divisor is den.)
 unfoldable pub lowest : ℤ → ℕ → Beat
-lowest num den = over num den (gcdOf (natAbs num) den)
+lowest num den = dividedBy num den (gcdOf (natAbs num) den)
 
 -- the same of any two numbers: a denominator 0 becomes 1
 unfoldable pub newBeat : ℤ → ℕ → Beat
@@ -24,6 +24,9 @@ newBeat num den = lowest num (max den 1)
 -- n whole beats
 abbrev pub wholeBeat : ℤ → Beat
 wholeBeat n = record { num = n; den = 1 }
+
+abbrev pub zeroBeat : Beat
+zeroBeat = wholeBeat (pos 0)
 
 -- a beat: its denominator is not 0, and it is in lowest terms
 abbrev pub isBeat : Beat → Bool

@@ -17,7 +17,7 @@ fn float_near(n: i64) -> f64
     n as f64
 }
 
-// num / den.
+// The numerator as the nearest float, divided by the denominator.
 pub fn float_of(beat: Beat) -> f64
     ensures { λ r. ⌜ r ≡ beatFloat (beat .num) (beat .den) ⌝ }
 {
@@ -40,7 +40,7 @@ pub fn frames_at(seconds: f64, rate: u32) -> u64
     rounding::round_to_u64(seconds * (rate as f64))
 }
 
-// The frame of a beat at one tempo, which counts as 1 where it is below.
+// The frame of a beat at one tempo, which counts as 1 where it is below 1 or a NaN.
 pub fn frame_of(beat: Beat, bpm: f32, rate: u32) -> u64
     ensures { λ r. ⌜ r ≡ frameOf (beat .num) (beat .den) bpm rate ⌝ }
 {

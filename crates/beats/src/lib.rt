@@ -3,8 +3,7 @@
 ghost use mathlib.Core.Path.{_≡_};
 ghost use mathlib.Core.Bool.{_&&_};
 ghost use Prim.Native.Nat.{max};
-ghost use lib.IntN.{pos};
-ghost use Rattle.beats.specs.Beats.{newBeat, isBeat, wholeBeat};
+ghost use Rattle.beats.specs.Beats.{newBeat, isBeat, wholeBeat, zeroBeat};
 ghost use Rattle.beats.specs.Sums.{addAnswer, subAnswer, mulAnswer, orderAnswer};
 ghost use Rattle.beats.specs.Frames.{floatAnswer, frameAnswer};
 ghost use Rattle.beats.specs.Steps.{stepAnswer};
@@ -20,27 +19,32 @@ pub struct Beat {
     pub den: u32,
 }
 
+// A beat, or what refuses it: NotBeat 1, Overflow 2.
 pub enum BeatAnswer {
     Done(Beat),
     NotBeat,
     Overflow,
 }
 
+// An order, or NotBeat: 1.
 pub enum OrderAnswer {
     Stands(Order),
     NotBeat,
 }
 
+// A float, or NotBeat: 1.
 pub enum FloatAnswer {
     Value(f64),
     NotBeat,
 }
 
+// A frame, or NotBeat: 1.
 pub enum FrameAnswer {
     Frame(u64),
     NotBeat,
 }
 
+// A step, or what refuses it: NotBeat 1, OffGrid 7.
 pub enum StepAnswer {
     Step(u32),
     NotBeat,
@@ -54,6 +58,7 @@ fn positive(den: u32) -> u32
     if den == 0 { 1 } else { den }
 }
 
+// Whether both are beats.
 fn both_beats(a: Beat, b: Beat) -> bool
     ensures { λ r. ⌜ r ≡ isBeat a && isBeat b ⌝ }
 {
@@ -76,8 +81,9 @@ impl Beat {
         }
     }
 
+    // The beat 0/1.
     pub fn zero() -> Beat
-        ensures { λ r. ⌜ r ≡ wholeBeat (pos 0) ⌝ }
+        ensures { λ r. ⌜ r ≡ zeroBeat ⌝ }
     {
         Beat { num: 0, den: 1 }
     }
@@ -102,6 +108,7 @@ impl Beat {
         }
     }
 
+    // The exact sum; 2 where it is too wide before it is reduced.
     pub fn checked_add(self, b: Beat) -> BeatAnswer
         ensures { λ r. ⌜ readBeat r ≡ addAnswer self b ⌝ }
     {
@@ -111,6 +118,7 @@ impl Beat {
         sums::add(self, b)
     }
 
+    // The exact difference; 2 where it is too wide before it is reduced.
     pub fn checked_sub(self, b: Beat) -> BeatAnswer
         ensures { λ r. ⌜ readBeat r ≡ subAnswer self b ⌝ }
     {
@@ -120,7 +128,8 @@ impl Beat {
         sums::sub(self, b)
     }
 
-    // Scaled by num / den, which need not be in lowest terms; a denominator 0 counts as 1.
+    // Scaled by num / den, which need not be in lowest terms. By n/0 the product's denominator is 0,
+    // which becomes 1: 1/2 by 3/0 is 3/1.
     pub fn mul_rational(self, num: i64, den: u32) -> BeatAnswer
         ensures { λ r. ⌜ readBeat r ≡ mulAnswer self num den ⌝ }
     {
@@ -147,7 +156,7 @@ impl Beat {
         OrderAnswer::Stands(sums::order(self, b))
     }
 
-    // num / den as a float, rounded once.
+    // The numerator as the nearest float, divided by the denominator: each rounded once.
     pub fn to_f64(self) -> FloatAnswer
         ensures { λ r. ⌜ readFloat r ≡ floatAnswer self ⌝ }
     {

@@ -30,6 +30,7 @@ fn common(d: u32, e: u32) -> u64
     d as u64 * e as u64
 }
 
+// The exact sum, or 2.
 pub fn add(a: Beat, b: Beat) -> BeatAnswer
     ensures { λ r. ⌜ readBeat r ≡ addBeats a b ⌝ }
 {
@@ -43,6 +44,7 @@ pub fn add(a: Beat, b: Beat) -> BeatAnswer
     )
 }
 
+// The exact difference, or 2.
 pub fn sub(a: Beat, b: Beat) -> BeatAnswer
     ensures { λ r. ⌜ readBeat r ≡ subBeats a b ⌝ }
 {
@@ -65,6 +67,7 @@ pub fn mul(a: Beat, num: i64, den: u32) -> BeatAnswer
     checked(Exact::product(an, num), common(ad, den))
 }
 
+// Where a stands to b.
 pub fn order(a: Beat, b: Beat) -> Order
     ensures { λ r. ⌜ r ≡ orderOfBeats a b ⌝ }
 {

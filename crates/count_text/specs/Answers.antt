@@ -8,6 +8,7 @@ use Rattle.meter.specs.declared.MeterPoint.{MeterPoint}
 use Rattle.meter.specs.declared.Pickup.{Pickup}
 use Rattle.meter.specs.Meters.{pointsOf}
 use Rattle.meter.specs.Counts.{countAt}
+use Rattle.meter.specs.Fits.{lastBar}
 use Rattle.fits.specs.Decision.{fitsBool}
 use Rattle.score.specs.Format.{isScore, scoreOf, meterWords}
 use Rattle.score.specs.Answers.{refusalText}
@@ -24,7 +25,7 @@ moreText = 109 ∷ 111 ∷ 114 ∷ 101 ∷ 32 ∷ 116 ∷ 104 ∷ 97 ∷ 110 ∷
 
 -- the bars past the first `less`; 4,294,967,295 is the count that was not searched, where bar 2^31 starts before the beat
 unfoldable pub amountText : ℕ → ℕ → List ℕ
-amountText count less = cond (eqb count 4294967295) (moreText ++ decimal (2147483648 - less)) (decimal (count - less))
+amountText count less = cond (eqb count 4294967295) (moreText ++ decimal (lastBar - less)) (decimal (count - less))
 
 -- ` bar` for one, and else ` bars`
 unfoldable pub unitText : ℕ → List ℕ

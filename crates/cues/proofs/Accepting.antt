@@ -7,9 +7,8 @@ use native.Mathlib.Omega.{arith}
 use borrow.Author.Tests.{leb-true, le-leb}
 use lib.Dec.{leb}
 use lib.ListN.{length, length-append}
-use Rattle.numbers.specs.Answers.{Answer, accepted}
+use Rattle.numbers.specs.Answers.{Answer, accepted, isAccepted}
 use Rattle.numbers.proofs.Laws.{and-left, and-right, cases}
-use Rattle.meter.specs.Fits.{isAccepted}
 use Rattle.transport.specs.declared.Transport.{Transport}
 use Rattle.transport.specs.Transports.{sound, playing}
 use Rattle.transport.specs.Advances.{advanced}

@@ -6,9 +6,8 @@ use Prim.Native.Nat.{ℕ, _+_, _-_, _≤_, _^_}
 use native.Mathlib.Nat.{add-zero}
 use native.Mathlib.Omega.{arith}
 use lib.ListN.{length, drop}
-use Rattle.numbers.specs.Answers.{Answer, accepted, refused, given, over}
+use Rattle.numbers.specs.Answers.{Answer, accepted, refused, given, over, isAccepted}
 use Rattle.numbers.proofs.Laws.{and-left, and-right}
-use Rattle.meter.specs.Fits.{isAccepted}
 use Rattle.transport.specs.declared.Transport.{Transport}
 use Rattle.transport.specs.Transports.{sound}
 use Rattle.transport.specs.Changes.{Handed}

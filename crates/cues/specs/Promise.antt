@@ -6,8 +6,7 @@ use mathlib.Core.List.{List, [], _∷_, _++_, map}
 use Prim.Native.Nat.{ℕ, zero, suc, _+_, _-_, _/_, _≤_, _^_}
 use lib.Dec.{leb}
 use lib.ListN.{length}
-use Rattle.numbers.specs.Answers.{Answer, accepted, refused}
-use Rattle.meter.specs.Fits.{isAccepted}
+use Rattle.numbers.specs.Answers.{Answer, accepted, refused, isAccepted}
 use Rattle.transport.specs.declared.Transport.{Transport}
 use Rattle.transport.specs.Transports.{sound}
 use Rattle.transport.specs.Changes.{Handed}

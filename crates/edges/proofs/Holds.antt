@@ -1,5 +1,6 @@
 -- Every edge of the table holds, by computing.
-use mathlib.Core.Path.{_≡_, refl}
+use mathlib.Core.Path.{refl}
+use Rattle.numbers.specs.Answers.{Agree}
 use Rattle.numbers.specs.Divisor.{gcdOf, remainders}
 use Rattle.beats.specs.Beats.{newBeat, lowest}
 use Rattle.beats.specs.Sums.{fitted}
@@ -13,8 +14,8 @@ use Rattle.notes.specs.Notes.{notesOf}
 use Rattle.notes.specs.Sorting.{insert, sortByStep}
 use Rattle.rhythm.specs.Values.{remainder}
 use Rattle.rhythm.specs.Makes.{hitsFrom, row}
-use Rattle.edges.specs.Edges.{table, answers, givens}
+use Rattle.edges.specs.Edges.{answer, table}
 
-pub holds : answers table ≡ givens table
+pub holds : Agree answer table
 unfolding newBeat lowest gcdOf remainders fitted pointsOf later lastAt lenOf barLen nearer nextChange afterBars segments startOf doubling halving searched reaches countAt sound advanced ascendsFrom notesOf insert sortByStep remainder hitsFrom row
 holds = refl

@@ -100,14 +100,6 @@ answer (reverse words) = read ofPhrase (reverseOf oneBar words 16)
 
 -- ---- the table
 
--- a question, and the answer that document 01 gives
-pub record Edge : Type 0 where
-  pub asked : Question
-  pub given : Answer (List ℤ)
-
-abbrev pub edge : Question → Answer (List ℤ) → Edge
-edge asked given = record { asked = asked; given = given }
-
 infixl 70 _//_
 abbrev pub _//_ : ℤ → ℕ → Beat
 num // den = record { num = num; den = den }
@@ -119,7 +111,7 @@ minus n = negℤ (pos n)
 abbrev pub fourFour : List ℕ
 fourFour = 0 ∷ 4 ∷ 4 ∷ []
 
--- playing at a position, with the loop 100..300 and the length 1000
+-- playing at a position, with the loop 100..300 and the length 1000, at the tempo 120, which is 15 * 2 ^ 3
 abbrev pub looped : ℕ → Transport
 looped position = movedTo (loopingBy (made 48000 (fin false 15 (pos 3)) 4 1000 Absent) (On 100 300)) position Playing
 
@@ -127,36 +119,27 @@ looped position = movedTo (loopingBy (made 48000 (fin false 15 (pos 3)) 4 1000 A
 abbrev pub note : ℕ → ℕ → List ℕ
 note step len = step ∷ len ∷ 0 ∷ 0 ∷ []
 
-abbrev pub table : List Edge
+-- each row a question, and the answer that document 01 gives
+abbrev pub table : List (Question × Answer (List ℤ))
 table =
-    edge (new (pos 6) 8) (accepted (ofBeat (pos 3 // 4)))
-    ∷ edge (new (pos 0) 7) (accepted (ofBeat (pos 0 // 1)))
-    ∷ edge (new (pos 5) 0) (accepted (ofBeat (pos 5 // 1)))
-    ∷ edge (add (pos 1 // 65536) (pos 1 // 65536)) (refused 2 [])
-    ∷ edge (add (pos 1 // 65535) (pos 1 // 65536)) (accepted (ofBeat (pos 131071 // 4294901760)))
-    ∷ edge (order (minus 1 // 2) (minus 1 // 3)) (accepted (ofOrder Less))
-    ∷ edge (count fourFour 4 (Present (pos 1 // 1)) (pos 0 // 1)) (accepted (ofNumber 0))
-    ∷ edge (count fourFour 4 (Present (pos 1 // 1)) (pos 1 // 1)) (accepted (ofNumber 1))
-    ∷ edge (count fourFour 4 (Present (pos 1 // 1)) (pos 9 // 1)) (accepted (ofNumber 3))
-    ∷ edge (count fourFour 4 (Present (pos 1 // 1)) (pos 28 // 3)) (accepted (ofNumber 4))
-    ∷ edge (count fourFour 4 (Present (pos 0 // 1)) (pos 1 // 2)) (accepted (ofNumber 2))
-    ∷ edge (count fourFour 4 Absent (pos 8589934592 // 1)) (accepted (ofNumber 2147483648))
-    ∷ edge (count fourFour 4 Absent (pos 8589934593 // 1)) (accepted (ofNumber 4294967295))
-    ∷ edge (advance (looped 350) 0) (accepted (standsAt 150 true false))
-    ∷ edge (cue (looped 250) (0 ∷ 100 ∷ 200 ∷ 300 ∷ []) 300 (0 ∷ 0 ∷ 0 ∷ 0 ∷ 0 ∷ 0 ∷ [])) (accepted (cued 150 true false 3 (50 ∷ 1 ∷ 150 ∷ 2 ∷ 250 ∷ 1 ∷ [])))
-    ∷ edge (euclidean 3 8) (accepted (pos 0 ∷ pos 3 ∷ pos 6 ∷ []))
-    ∷ edge (euclidean 0 8) (accepted [])
-    ∷ edge (tuplet 3 4) (accepted (pos 0 ∷ pos 1 ∷ pos 3 ∷ []))
-    ∷ edge (rotate (note 0 1) (minus 1)) (accepted (pos 15 ∷ []))
-    ∷ edge (reverse (note 14 4)) (accepted (pos 0 ∷ []))
+    (new (pos 6) 8, accepted (ofBeat (pos 3 // 4)))
+    ∷ (new (pos 0) 7, accepted (ofBeat (pos 0 // 1)))
+    ∷ (new (pos 5) 0, accepted (ofBeat (pos 5 // 1)))
+    ∷ (add (pos 1 // 65536) (pos 1 // 65536), refused 2 [])
+    ∷ (add (pos 1 // 65535) (pos 1 // 65536), accepted (ofBeat (pos 131071 // 4294901760)))
+    ∷ (order (minus 1 // 2) (minus 1 // 3), accepted (ofOrder Less))
+    ∷ (count fourFour 4 (Present (pos 1 // 1)) (pos 0 // 1), accepted (ofNumber 0))
+    ∷ (count fourFour 4 (Present (pos 1 // 1)) (pos 1 // 1), accepted (ofNumber 1))
+    ∷ (count fourFour 4 (Present (pos 1 // 1)) (pos 9 // 1), accepted (ofNumber 3))
+    ∷ (count fourFour 4 (Present (pos 1 // 1)) (pos 28 // 3), accepted (ofNumber 4))
+    ∷ (count fourFour 4 (Present (pos 0 // 1)) (pos 1 // 2), accepted (ofNumber 2))
+    ∷ (count fourFour 4 Absent (pos 8589934592 // 1), accepted (ofNumber 2147483648))
+    ∷ (count fourFour 4 Absent (pos 8589934593 // 1), accepted (ofNumber 4294967295))
+    ∷ (advance (looped 350) 0, accepted (standsAt 150 true false))
+    ∷ (cue (looped 250) (0 ∷ 100 ∷ 200 ∷ 300 ∷ []) 300 (0 ∷ 0 ∷ 0 ∷ 0 ∷ 0 ∷ 0 ∷ []), accepted (cued 150 true false 3 (50 ∷ 1 ∷ 150 ∷ 2 ∷ 250 ∷ 1 ∷ [])))
+    ∷ (euclidean 3 8, accepted (pos 0 ∷ pos 3 ∷ pos 6 ∷ []))
+    ∷ (euclidean 0 8, accepted [])
+    ∷ (tuplet 3 4, accepted (pos 0 ∷ pos 1 ∷ pos 3 ∷ []))
+    ∷ (rotate (note 0 1) (minus 1), accepted (pos 15 ∷ []))
+    ∷ (reverse (note 14 4), accepted (pos 0 ∷ []))
     ∷ []
-
--- ---- the statement
-
-abbrev pub answers : List Edge → List (Answer (List ℤ))
-answers [] = []
-answers (e ∷ rest) = answer (e .asked) ∷ answers rest
-
-abbrev pub givens : List Edge → List (Answer (List ℤ))
-givens [] = []
-givens (e ∷ rest) = e .given ∷ givens rest

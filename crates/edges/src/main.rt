@@ -249,6 +249,14 @@ fn denominator_edges() {
     denominator(0);
 }
 
+// Words that are no points: no question of the port and the original sends such.
+fn uneven_edge() {
+    let mut out = [0u32; 3];
+    text(b"meter words 0 4: ");
+    let answer = points::flat_problems(&[0u32, 4], &mut out);
+    print_problem(answer, out[0], out[2]);
+}
+
 fn print_notes(n: usize) {
     io::print_decimal(1, n as u64);
 }
@@ -322,6 +330,7 @@ fn main() {
     cue_edge();
     fine_pickup();
     denominator_edges();
+    uneven_edge();
     made_edges();
     turned_edges();
     gate_edge();

@@ -18,14 +18,14 @@ use Rattle.numbers.proofs.Laws.{by-order, both, and-right}
 use Rattle.rounding.specs.Floats.{float0}
 use Rattle.rounding.proofs.Laws.{Up, up→le}
 use Rattle.beats.specs.declared.Beat.{Beat}
-use Rattle.beats.specs.Beats.{isBeat}
+use Rattle.beats.specs.Beats.{isBeat, zeroBeat}
 use Rattle.beats.specs.Sums.{belowBeat}
 use Rattle.beats.specs.Frames.{beatFloat, framesAt}
 use Rattle.beats.proofs.Laws.{beat-above}
 use Rattle.meter.specs.Meters.{pointsOf}
-use Rattle.meter.specs.Starts.{zeroBeat, startOf, exactStart}
+use Rattle.meter.specs.Starts.{startOf, exactStart}
 use Rattle.meter.proofs.Laws.{fit-rising, fit-exact, fit-stored, start-zero}
-use Rattle.tempo.specs.declared.MapTest.the-variants.{Sound}
+use Rattle.tempo.specs.declared.MapTest.the-variants.{Fine}
 use Rattle.tempo.specs.Answers.{mapTest}
 use Rattle.tempo.specs.Tempos.{TempoPoint, tempoPoints}
 use Rattle.tempo.specs.Rising.{RisingMap}
@@ -56,7 +56,7 @@ frame-up bpm (first ∷ rest) rate r a b A B h u =
 
 -- ---- lines
 
-module _ (t : Transport) (words : List ℕ) (nums : List ℤ) (dens tempos : List ℕ) (n : ℕ) (o : InOrder t words nums dens tempos) (m : mapTest nums dens tempos ≡ Sound) (few : n ≤ 65536) where
+module _ (t : Transport) (words : List ℕ) (nums : List ℤ) (dens tempos : List ℕ) (n : ℕ) (o : InOrder t words nums dens tempos) (m : mapTest nums dens tempos ≡ Fine) (few : n ≤ 65536) where
   abbrev start : ℕ → Beat
   start bar = startOf (pointsOf words) (t .«beats_per_bar») (t .pickup) bar
 
@@ -146,7 +146,7 @@ module _ (t : Transport) (words : List ℕ) (nums : List ℤ) (dens tempos : Lis
       let a = floatOf (start i) in
       let b = floatOf (start j) in
       rw (bar-frame t (pointsOf words) points i, bar-frame t (pointsOf words) points j)
-      (frame-up (t .bpm) points (t .«sample_rate») (map-rises nums dens tempos (tempo.sound nums dens tempos m .beats) (o .sound) (o .small)) a b
+      (frame-up (t .bpm) points (t .«sample_rate») (map-rises nums dens tempos (tempo.walkable nums dens tempos m .beats) (o .sound) (o .small)) a b
       (start-finite i (omega arith)) (start-finite j l) (from-zero i (omega arith)) (start-up i j h l))
 
 -- ---- a list of entries that do not fall

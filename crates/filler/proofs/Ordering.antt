@@ -17,7 +17,7 @@ use Rattle.numbers.proofs.Laws.{lt-parts, parts-lt, up-times, down-times, and-l
 use Rattle.rounding.specs.Floats.{roundAway, maximum, float0, float1}
 use Rattle.rounding.proofs.Laws.{max-positive, quotient-is, round-rises, Up, up→le, not-zero, mul-up, round-own, round-up}
 use Rattle.beats.specs.declared.Beat.{Beat}
-use Rattle.beats.specs.Beats.{wholeBeat}
+use Rattle.beats.specs.Beats.{zeroBeat}
 use Rattle.beats.specs.Sums.{belowBeat}
 use Rattle.beats.specs.Frames.{float60, beatFloat, secondsAt, framesAt}
 use Rattle.tempo.proofs.Laws.{seconds-up}
@@ -174,7 +174,7 @@ pub record Placed (most : ℕ) (beat : Beat) : Type 0 where
 abbrev pub exactly : ℕ
 exactly = 9007199254740992
 
-pub zero-placed : Placed exactly (wholeBeat (pos 0))
+pub zero-placed : Placed exactly zeroBeat
 zero-placed = record { size = 0; is = refl; small = lit≤ tt; above = lit< tt; narrow = lit≤ tt }
 
 pub placed-finite : (a : Beat) → Placed exactly a → T (finite (beatFloat (a .num) (a .den)))
@@ -215,7 +215,7 @@ module _ (most : ℕ) (a : Beat) (d : 0 < a .den) (s : smallBeat most a ≡ true
       go (negsuc n) e = absurd (never n e)
 
   -- one that is not below 0
-  pub placed-zero : belowBeat a (wholeBeat (pos 0)) ≡ false → Placed most a
+  pub placed-zero : belowBeat a zeroBeat ≡ false → Placed most a
   placed-zero h =
       placed-unless (λ n e. subst T (ap (λ (z : ℤ). ltZ (z *ℤ pos 1) (pos 0 *ℤ pos (a .den))) (sym e) ∙ h)
       (parts-lt (negsuc n *ℤ pos 1) (pos 0 *ℤ pos (a .den)) (omega (arith, up-times (negsuc n) 1, down-times (negsuc n) 1, up-times (pos 0) (a .den), down-times (pos 0) (a .den)))))

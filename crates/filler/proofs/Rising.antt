@@ -14,7 +14,7 @@ use Rattle.numbers.proofs.Laws.{and-left, and-right}
 use Rattle.rounding.specs.Floats.{float0}
 use Rattle.rounding.proofs.Laws.{up→le}
 use Rattle.beats.specs.declared.Beat.{Beat}
-use Rattle.beats.specs.Beats.{isBeat, wholeBeat}
+use Rattle.beats.specs.Beats.{isBeat, zeroBeat}
 use Rattle.beats.specs.Sums.{belowBeat}
 use Rattle.beats.specs.Frames.{beatFloat}
 use Rattle.beats.proofs.Laws.{beat-above}
@@ -22,7 +22,7 @@ use Rattle.tempo.specs.Answers.{allBeats}
 use Rattle.tempo.specs.Tempos.{tempoOf, tempoPoints}
 use Rattle.tempo.specs.Rising.{Follows, RisingFrom, RisingMap}
 use Rattle.tempo.proofs.Laws.{finite-tempo}
-use Rattle.problems.specs.Problems.{problemIf, Listed, listed, soundTempo, tempoBits, tempoPointsAfter, isZero, tempoProblems}
+use Rattle.problems.specs.Problems.{problemIf, Listed, listed, soundTempo, tempoBits, tempoPointsAfter, isZero, tempoProblems, notAbove, manyTempos, laterBeat}
 use Rattle.filler.specs.Promise.{allSmall}
 use Rattle.filler.proofs.Ordering.{Placed, exactly, zero-placed, placed-finite, placed-up, placed-below, smallBeat, placed-zero, placed-after, beat-zero}
 
@@ -62,7 +62,7 @@ rises index before (num ∷ nums) (den ∷ dens) [] p b e s = tt
 rises index before (num ∷ nums) (den ∷ dens) (bits ∷ tempos) p b e s =
     let at : Beat = record { num = num; den = den } in
     let point : Listed = record { at = at; bits = bits } in
-    let after = problemIf (not (belowBeat before at)) 9 index 0 in
+    let after = notAbove index before at in
     let rest = tempoPointsAfter (suc index) at (listed nums dens tempos) in
     let above = beat-above at (and-left (isBeat at) (allBeats nums dens) b) in
     let own = append-eq-nil-iff {p = tempoBits index point} {q = after ++ rest} .0 e in
@@ -75,7 +75,7 @@ rises index before (num ∷ nums) (den ∷ dens) (bits ∷ tempos) p b e s =
     )
 
 -- a beat that is 0 is not before 0
-zero-at : (num : ℤ) (den : ℕ) → isZero (record { num = num; den = den }) ≡ true → belowBeat (record { num = num; den = den }) (wholeBeat (pos 0)) ≡ false
+zero-at : (num : ℤ) (den : ℕ) → isZero (record { num = num; den = den }) ≡ true → belowBeat (record { num = num; den = den }) zeroBeat ≡ false
 zero-at (pos n) den e = le-ltb (n * 1) (0 * den) (omega arith)
 zero-at (negsuc n) den e = absurd (suc-ne-zero n (eqb-true (suc n) 0 e))
 
@@ -89,8 +89,8 @@ map-rises (num ∷ nums) (den ∷ dens) [] b e s = tt
 map-rises (num ∷ nums) (den ∷ dens) (bits ∷ tempos) b e s =
     let at : Beat = record { num = num; den = den } in
     let point : Listed = record { at = at; bits = bits } in
-    let many = problemIf (ltb 1024 (length (point ∷ listed nums dens tempos))) 6 0 (length (point ∷ listed nums dens tempos)) in
-    let late = problemIf (not (isZero at)) 7 0 0 in
+    let many = manyTempos (length (point ∷ listed nums dens tempos)) in
+    let late = laterBeat at in
     let rest = tempoPointsAfter 1 at (listed nums dens tempos) in
     let timed = append-eq-nil-iff {p = late} {q = tempoBits 0 point ++ rest} .0 (append-eq-nil-iff {p = many} {q = late ++ (tempoBits 0 point ++ rest)} .0 e .1) in
     let below = zero-at num den (not-false (isZero at) (none-when (not (isZero at)) 7 0 0 (timed .0))) in
@@ -98,6 +98,6 @@ map-rises (num ∷ nums) (den ∷ dens) (bits ∷ tempos) b e s =
     let q = placed-zero exactly at (beat-above at (and-left (isBeat at) (allBeats nums dens) b)) (and-left (smallBeat exactly at) (allSmall (listed nums dens tempos)) s) below in (
       follows float0 0 num den bits q
           (subst (λ (x : Float). T (le x (beatFloat num den))) beat-zero
-          (up→le (beatFloat (pos 0) 1) (beatFloat num den) (placed-up (wholeBeat (pos 0)) at zero-placed q below))) (left .0),
+          (up→le (beatFloat (pos 0) 1) (beatFloat num den) (placed-up zeroBeat at zero-placed q below))) (left .0),
       rises 1 at nums dens tempos q (and-right (isBeat at) (allBeats nums dens) b) (left .1) (and-right (smallBeat exactly at) (allSmall (listed nums dens tempos)) s),
     )

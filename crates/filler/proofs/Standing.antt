@@ -10,10 +10,11 @@ use lib.ListN.{length}
 use borrow.Author.Tests.{eq-eqb, ne-eqb, eqb-true, eqb-false, ltb-true, ltb-false, le-leb, lt-leb}
 use Rattle.numbers.proofs.Laws.{by-order}
 use Rattle.beats.specs.declared.Beat.{Beat}
+use Rattle.beats.specs.Beats.{zeroBeat}
 use Rattle.beats.specs.Sums.{addBeats, orMost}
 use Rattle.meter.specs.declared.Pickup.{Pickup}
 use Rattle.meter.specs.Meters.{pointsOf, lenOf, barLen, nextChange}
-use Rattle.meter.specs.Starts.{zeroBeat, afterBars, segments, startOf}
+use Rattle.meter.specs.Starts.{afterBars, segments, startOf}
 use Rattle.meter.proofs.Laws.{points-length, len-rest, segments-over, segments-turn, one, start-zero, start-segments}
 use Rattle.filler.specs.declared.segments.Segment.{Segment}
 use Rattle.filler.specs.Numbers.{markOf, forceOf, numbered}

@@ -11,7 +11,7 @@ use borrow.Author.Tests.{leb-true}
 use Rattle.numbers.specs.Answers.{Answer, accepted, given}
 use Rattle.meter.specs.Meters.{pointsOf}
 use Rattle.tempo.specs.declared.MapTest.{MapTest}
-use Rattle.tempo.specs.declared.MapTest.the-variants.{Sound, TooLong}
+use Rattle.tempo.specs.declared.MapTest.the-variants.{Fine, TooLong}
 use Rattle.tempo.specs.Answers.{mapTest}
 use Rattle.tempo.specs.Tempos.{tempoPoints}
 use Rattle.transport.specs.declared.Transport.{Transport}
@@ -22,10 +22,10 @@ use Rattle.timeline.specs.Tests.{wordsTest, worse, mapsTest, testOf}
 use Rattle.timeline.proofs.Laws.{ifPassed, by-test, passes, both-sound, parallel}
 use Rattle.filler.specs.Fills.{barLines, linesTest, fillAnswer, fillAfter}
 
-short : (n : ℕ) → linesTest n ≡ Sound → n ≤ 65536
+short : (n : ℕ) → linesTest n ≡ Fine → n ≤ 65536
 short n e = go (leb n 65536) refl e
   where
-    go : (b : Bool) → leb n 65536 ≡ b → cond b Sound TooLong ≡ Sound → n ≤ 65536
+    go : (b : Bool) → leb n 65536 ≡ b → cond b Fine TooLong ≡ Fine → n ≤ 65536
     go true p q = leb-true n 65536 p
     go false p q = let z : _≡_ {A = ℕ} 0 1 = cc in absurd (omega arith)
 
@@ -42,7 +42,7 @@ module _ (t : Transport) (words : List ℕ) (nums : List ℤ) (dens tempos out :
 
   module _ {test : Test} (e : test ≡ testOf t finding) where
     -- the tempo map is sound, and there are not too many lines
-    known : test ≡ Passed → (mapTest nums dens tempos ≡ Sound) × (length out ≤ 65536)
+    known : test ≡ Passed → (mapTest nums dens tempos ≡ Fine) × (length out ≤ 65536)
     unfolding mapsTest
     known p =
         let both = both-sound (linesTest (length out)) (mapsTest words nums dens tempos) (passes t finding (sym p ∙ e) .lists) in
@@ -59,5 +59,5 @@ module _ (t : Transport) (words : List ℕ) (nums : List ℤ) (dens tempos out :
     after = ap (λ (x : Answer Unit). given (λ u. barLines t (pointsOf words) (tempoPoints nums dens tempos) (length out)) x out) answered
 
   -- the same of a call that is accepted
-  pub accepted-known : fillAnswer t words nums dens tempos out ≡ done → (mapTest nums dens tempos ≡ Sound) × (length out ≤ 65536)
+  pub accepted-known : fillAnswer t words nums dens tempos out ≡ done → (mapTest nums dens tempos ≡ Fine) × (length out ≤ 65536)
   accepted-known a = known refl (only-passed (testOf t finding) (answered refl ∙ a))

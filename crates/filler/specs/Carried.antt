@@ -8,11 +8,12 @@ use lib.IntN.{ℤ}
 use lib.Ieee.{Float, le}
 use lib.ListN.{length, drop}
 use Rattle.beats.specs.declared.Beat.{Beat}
+use Rattle.beats.specs.Beats.{zeroBeat}
 use Rattle.beats.specs.Sums.{addBeats, orMost}
 use Rattle.meter.specs.declared.MeterPoint.{MeterPoint}
 use Rattle.meter.specs.declared.Pickup.{Pickup}
 use Rattle.meter.specs.Meters.{barLen}
-use Rattle.meter.specs.Starts.{zeroBeat, afterBars, segments, startOf}
+use Rattle.meter.specs.Starts.{afterBars, segments, startOf}
 use Rattle.tempo.specs.Tempos.{TempoPoint, tempoPoints, elapsed, walk, secondsAtBeat}
 use Rattle.filler.specs.declared.segments.Segment.{Segment}
 use Rattle.filler.specs.declared.stands.Stand.{Stand}

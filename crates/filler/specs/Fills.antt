@@ -9,7 +9,7 @@ use Rattle.numbers.specs.Answers.{Answer, accepted, refused, given}
 use Rattle.meter.specs.declared.MeterPoint.{MeterPoint}
 use Rattle.meter.specs.Meters.{pointsOf}
 use Rattle.tempo.specs.declared.MapTest.{MapTest}
-use Rattle.tempo.specs.declared.MapTest.the-variants.{Sound, TooLong}
+use Rattle.tempo.specs.declared.MapTest.the-variants.{Fine, TooLong}
 use Rattle.tempo.specs.Tempos.{TempoPoint, tempoPoints}
 use Rattle.transport.specs.declared.Transport.{Transport}
 use Rattle.timeline.specs.Places.{frameAtBar}
@@ -26,7 +26,7 @@ barLines t map points n = entries (frameAtBar t map points) 0 n
 
 -- 4 over 65,536 bar lines
 abbrev pub linesTest : ℕ → MapTest
-linesTest n = cond (leb n 65536) Sound TooLong
+linesTest n = cond (leb n 65536) Fine TooLong
 
 -- 12 of the transport, then 3, 4 and 1 of the lists, the lent one among them
 abbrev pub fillAnswer : Transport → List ℕ → List ℤ → List ℕ → List ℕ → List ℕ → Answer Unit

@@ -25,7 +25,7 @@ fn lines_test(n: usize) -> MapTest
     ensures { λ r. ⌜ r ≡ linesTest n ⌝ }
 {
     if n <= 65536 {
-        MapTest::Sound
+        MapTest::Fine
     } else {
         MapTest::TooLong
     }

@@ -7,18 +7,19 @@ use native.Mathlib.Nat.{le-refl}
 use native.Mathlib.Omega.{arith}
 use lib.Dec.{leb, ltb}
 use lib.ListN.{length}
-use Rattle.numbers.specs.Answers.{Answer, accepted, refused}
+use Rattle.numbers.specs.Answers.{Answer, accepted, refused, isAccepted}
 use Rattle.numbers.proofs.Laws.{by-order, and-left, and-right, never}
 use Rattle.beats.specs.declared.Beat.{Beat}
+use Rattle.beats.specs.Beats.{zeroBeat}
 use Rattle.beats.specs.Sums.{addBeats}
 use Rattle.beats.proofs.Laws.{zero-beat}
 use Rattle.meter.specs.declared.MeterPoint.{MeterPoint}
 use Rattle.meter.specs.declared.Pickup.{Pickup}
 use Rattle.meter.specs.Meters.{fallback, meterAt, lenOf, barLen, lastAt, nextChange}
-use Rattle.meter.specs.Starts.{zeroBeat, then, checkedBars, checkedSegments, checkedStart}
-use Rattle.meter.specs.Fits.{goodDen, soundFrom, firstZero, soundMap, forwardPickup, isAccepted, Fits}
+use Rattle.meter.specs.Starts.{then, checkedBars, checkedSegments, checkedStart}
+use Rattle.meter.specs.Fits.{goodDen, soundFrom, firstZero, soundMap, forwardPickup, Fits, lastBar}
 use Rattle.meter.proofs.Laws.{from-ascends, Rest, rest-on, rest-next, rest-meter, len-rest, checked-end, checked-more, forward-beat, forward-len}
-use Rattle.fits.specs.Decision.{lastBar, segment, reach, walked, walkFits, fitsBool}
+use Rattle.fits.specs.Decision.{segment, reach, walked, walkFits, fitsBool}
 use Rattle.fits.proofs.Walking.{segment-on, reach-bars, reach-none}
 use Rattle.fits.proofs.Segments.{accepted-some, Forward, sum-forward, bars-forward, len-forward, len-power, last-two, one-before}
 
@@ -285,7 +286,7 @@ module _ (map : List MeterPoint) (default : ℕ) (pickup : Pickup) where
       }
 
   walks : soundMap map ≡ true → forwardPickup pickup ≡ true → isAccepted (walked map 1 (fallback default) (addBeats zeroBeat (barLen map default pickup 0))) ≡ true
-      → (bar : ℕ) → bar ≤ 2147483648 → isAccepted (checkedStart map default pickup bar) ≡ true
+      → (bar : ℕ) → bar ≤ lastBar → isAccepted (checkedStart map default pickup bar) ≡ true
   unfolding checkedStart
   walks s f w zero h = refl
   walks s f w (suc bar) h =

@@ -25,7 +25,7 @@ fits-exactly map default pickup = record { decided = decided map default pickup;
 -- the bounds of document 01 suffice for a yes
 pub within-bounds : (map : List MeterPoint) (default : ℕ) (pickup : Pickup) → soundMap map ≡ true → numeratorsUpTo 4096 map ≡ true → default ≤ 4096
     → forwardPickup pickup ≡ true → smallPickup pickup ≡ true → fitsBool map default pickup ≡ true
-within-bounds map default pickup sound numerators small forward short = complete map default pickup (suffices map default sound numerators small pickup forward short)
+within-bounds map default pickup sound numerators small forward short = complete map default pickup (suffices map default pickup sound forward numerators small short)
 
 -- an accepted answer stood behind all tests
 behind : (even few sound fine : Bool) → accepted true ≡ cond even (cond few (cond sound (accepted fine) (refused 1 [])) (refused 4 [])) (refused 3 []) → fine ≡ true

@@ -3,18 +3,15 @@ use mathlib.Core.Bool.{Bool, cond, _&&_}
 use mathlib.Core.List.{List, [], _∷_}
 use Prim.Native.Nat.{ℕ, min, max, _-_}
 use lib.Dec.{ltb}
-use Rattle.numbers.specs.Answers.{Answer, accepted, refused}
+use Rattle.numbers.specs.Answers.{Answer, accepted, refused, isAccepted}
 use Rattle.beats.specs.declared.Beat.{Beat}
+use Rattle.beats.specs.Beats.{zeroBeat}
 use Rattle.beats.specs.Sums.{addBeats}
 use Rattle.meter.specs.declared.MeterPoint.{MeterPoint}
 use Rattle.meter.specs.declared.Pickup.{Pickup}
 use Rattle.meter.specs.Meters.{fallback, lenOf, barLen}
-use Rattle.meter.specs.Starts.{zeroBeat, then, checkedBars}
-use Rattle.meter.specs.Fits.{soundMap, forwardPickup, isAccepted}
-
--- the last bar that the walk has to reach, 2^31
-abbrev pub lastBar : ℕ
-lastBar = 2147483648
+use Rattle.meter.specs.Starts.{then, checkedBars}
+use Rattle.meter.specs.Fits.{soundMap, forwardPickup, lastBar}
 
 -- the beat behind n bars of one length, n above 0; refused where it is, or where the start of the bar before is. For the lengths of sound meters these two stand for
 -- all starts on the way: the denominator is a power of two, so an odd number of bars leaves it as it is, and no earlier start works with larger numbers

@@ -8,11 +8,12 @@ use meter::Pickup;
 use meter::bars;
 ghost use mathlib.Core.Path.{_≡_};
 ghost use Prim.Native.Nat.{min, _<_};
+ghost use Rattle.numbers.specs.Answers.{isAccepted};
 ghost use Rattle.beats.specs.Readings.{readBeat};
 ghost use Rattle.meter.specs.Meters.{pointsOf, fallback};
 ghost use Rattle.meter.specs.Starts.{then, checkedBars};
-ghost use Rattle.meter.specs.Fits.{isAccepted};
-ghost use Rattle.fits.specs.Decision.{lastBar, segment, reach, walked, walkFits};
+ghost use Rattle.meter.specs.Fits.{lastBar};
+ghost use Rattle.fits.specs.Decision.{segment, reach, walked, walkFits};
 
 // The beat n bars of one length after a beat.
 fn bars_on(at: Beat, len: Beat, n: u32) -> BeatAnswer

@@ -10,10 +10,10 @@ use lib.IntN.{ℤ, pos, _*ℤ_}
 use lib.Signed.{leZ}
 use lib.ListN.{length}
 use borrow.Author.Tests.{leb-true, ltb-true, eqb-true}
-use Rattle.numbers.specs.Answers.{Answer, accepted}
+use Rattle.numbers.specs.Answers.{Answer, accepted, isAccepted}
 use Rattle.numbers.proofs.Laws.{by-order, up, and-left, and-right, not-negative, natural}
 use Rattle.beats.specs.declared.Beat.{Beat}
-use Rattle.beats.specs.Beats.{isBeat}
+use Rattle.beats.specs.Beats.{isBeat, zeroBeat}
 use Rattle.beats.specs.Sums.{addBeats}
 use Rattle.beats.specs.Values.{Worth}
 use Rattle.beats.proofs.Laws.{Is, is-same, scaled, added, new-is-beat, new-value, own-value, beat-above, zero-beat}
@@ -21,8 +21,9 @@ use Rattle.meter.specs.declared.MeterPoint.{MeterPoint}
 use Rattle.meter.specs.declared.Pickup.{Pickup}
 use Rattle.meter.specs.declared.Pickup.the-variants.{Absent, Present}
 use Rattle.meter.specs.Meters.{later, lastAt, fallback, meterAt, lenOf, barLen, nextChange}
-use Rattle.meter.specs.Starts.{zeroBeat, then, checkedBars, checkedSegments, checkedStart}
-use Rattle.meter.specs.Fits.{goodDen, soundFrom, firstZero, soundMap, forwardPickup, isAccepted, Fits, numeratorsUpTo, smallPickup}
+use Rattle.meter.specs.Starts.{then, checkedBars, checkedSegments, checkedStart}
+use Rattle.meter.specs.Fits.{goodDen, soundFrom, firstZero, soundMap, forwardPickup, numeratorsUpTo, smallPickup}
+use Rattle.meter.specs.Promise.{BoundsPromise}
 use Rattle.meter.proofs.Walking.{next-le, next-gt, later-in, later-out, len-rest, checked-end, checked-more}
 
 -- ---- the meters
@@ -177,6 +178,7 @@ module _ (map : List MeterPoint) (default : ℕ) (sound : soundMap map ≡ true)
       sure-start (beat .den) 262144 (2 ^ 56) (room (beat .den) (beat-above beat fine) d) map default (Present beat) (λ j. meters j .den) size
       (u * 16) bar (record { fine = fine; value = subst (λ (k : ℕ). Worth beat (pos (u * 16)) k) (mul-comm (beat .den) 16) o }) h (omega arith)
 
-  -- a score within the bounds fits
-  pub suffices : (pickup : Pickup) → forwardPickup pickup ≡ true → smallPickup pickup ≡ true → Fits map default pickup
-  suffices pickup s t = record { sound = sound; forward = s; walks = walks pickup s t }
+-- a score within the bounds fits
+pub suffices : BoundsPromise
+suffices map default pickup sound forward numerators small few =
+    record { sound = sound; forward = forward; walks = walks map default sound numerators small pickup forward few }

@@ -8,13 +8,13 @@ use borrow.Author.Tests.{not-true}
 use native.Mathlib.Nat.{not-suc-le-zero}
 use Rattle.numbers.proofs.Laws.{cases, not-both}
 use Rattle.beats.specs.declared.Beat.{Beat}
-use Rattle.beats.specs.Beats.{isBeat}
+use Rattle.beats.specs.Beats.{isBeat, zeroBeat}
 use Rattle.beats.specs.Sums.{belowBeat}
 use Rattle.beats.proofs.Laws.{not-below}
 use Rattle.meter.specs.declared.MeterPoint.{MeterPoint}
 use Rattle.meter.specs.declared.Pickup.{Pickup}
 use Rattle.meter.specs.declared.count.Upper.{Upper}
-use Rattle.meter.specs.Starts.{zeroBeat, startOf}
+use Rattle.meter.specs.Starts.{startOf}
 use Rattle.meter.specs.Counts.{doubling, within, searched, Least, reaches, countAt}
 use Rattle.meter.proofs.Searching.{Stays, searched-least, searched-none}
 

@@ -7,10 +7,10 @@ use native.Mathlib.Nat.{zero-mul, add-zero, add-suc, mul-pos}
 use native.Mathlib.Omega.{arith}
 use lib.IntN.{ℤ, pos, _+ℤ_, _*ℤ_}
 use lib.Signed.{leZ}
-use Rattle.numbers.specs.Answers.{Answer, accepted, refused}
+use Rattle.numbers.specs.Answers.{Answer, accepted, refused, isAccepted}
 use Rattle.numbers.proofs.Laws.{by-order, down, eq-parts, sum-parts, up-times, down-times, and-left, and-right, not-both, not-negative, grows}
 use Rattle.beats.specs.declared.Beat.{Beat}
-use Rattle.beats.specs.Beats.{isBeat}
+use Rattle.beats.specs.Beats.{isBeat, zeroBeat}
 use Rattle.beats.specs.Sums.{storable, addBeats, mulBeat, orMost, belowBeat, sumOf}
 use Rattle.beats.specs.Values.{Worth}
 use Rattle.beats.proofs.Laws.{new-is-beat, own-value, one-beat, beat-above, accepted-beat, accepted-storable, sum-value, scaled-value, same-value, value-forward, zero-beat, own-value-left, sum-beat, sum-is, sum-has, below-values, below-same, not-below}
@@ -18,8 +18,8 @@ use Rattle.meter.specs.declared.MeterPoint.{MeterPoint}
 use Rattle.meter.specs.declared.Pickup.{Pickup}
 use Rattle.meter.specs.declared.Pickup.the-variants.{Absent, Present}
 use Rattle.meter.specs.Meters.{meterAt, lenOf, barLen, nextChange}
-use Rattle.meter.specs.Starts.{zeroBeat, afterBars, segments, startOf, then, checkedBars, checkedSegments, checkedStart, exactStart}
-use Rattle.meter.specs.Fits.{isAccepted, forwardPickup}
+use Rattle.meter.specs.Starts.{afterBars, segments, startOf, then, checkedBars, checkedSegments, checkedStart, exactStart}
+use Rattle.meter.specs.Fits.{forwardPickup}
 use Rattle.meter.proofs.Walking.{next-le, next-gt, bars-stopped, len-rest, len-same, segments-end, segments-more, checked-end, checked-more}
 
 -- ---- whole numbers

@@ -22,7 +22,7 @@ use Rattle.meter.specs.declared.CountAnswer.the-variants.{Bars}
 use Rattle.meter.specs.Meters.{pointsOf, soundPickup}
 use Rattle.meter.specs.Starts.{startOf, exactStart}
 use Rattle.meter.specs.Counts.{Least, reaches, countAt}
-use Rattle.meter.specs.Fits.{firstZero, soundFrom, soundMap, forwardPickup, Fits}
+use Rattle.meter.specs.Fits.{firstZero, soundFrom, soundMap, forwardPickup, Fits, lastBar}
 use Rattle.meter.specs.Answers.{ifMap, ifPickup, countAnswer}
 use Rattle.meter.specs.Promise.{arrives, FirstBar, CountPromise}
 use Rattle.meter.proofs.Scanning.{points-length}
@@ -32,11 +32,11 @@ use Rattle.meter.proofs.Readings.{counts-apart}
 
 module _ (map : List MeterPoint) (default : ℕ) (pickup : Pickup) (fits : Fits map default pickup) where
   -- each start is the sum of the lengths before it
-  pub fit-exact : (bar : ℕ) → bar ≤ 2147483648 → startOf map default pickup bar ≡ exactStart map default pickup bar
+  pub fit-exact : (bar : ℕ) → bar ≤ lastBar → startOf map default pickup bar ≡ exactStart map default pickup bar
   fit-exact bar h = start-exact map default pickup bar (fits .walks bar h)
 
   -- and within the limits of a beat
-  pub fit-stored : (bar : ℕ) → bar ≤ 2147483648 → storable (startOf map default pickup bar .num) (startOf map default pickup bar .den) ≡ true
+  pub fit-stored : (bar : ℕ) → bar ≤ lastBar → storable (startOf map default pickup bar .num) (startOf map default pickup bar .den) ≡ true
   fit-stored bar h = start-stored map default pickup bar (fits .walks bar h)
 
   pub fit-rising : Rising (startOf map default pickup)
@@ -48,27 +48,27 @@ module _ (map : List MeterPoint) (default : ℕ) (pickup : Pickup) (fits : Fits 
 
   module _ (beat : Beat) (fine : isBeat beat ≡ true) where
     -- the count is the first bar that reaches the beat, or 2^32 - 1 where bar 2^31 does not
-    pub fit-least : reaches map default pickup beat 2147483648 ≡ true → Least (reaches map default pickup beat) (countAt map default pickup beat)
+    pub fit-least : reaches map default pickup beat lastBar ≡ true → Least (reaches map default pickup beat) (countAt map default pickup beat)
     fit-least e = count-least map default pickup fit-rising beat fine e
 
-    pub fit-past : reaches map default pickup beat 2147483648 ≡ false → countAt map default pickup beat ≡ 4294967295
+    pub fit-past : reaches map default pickup beat lastBar ≡ false → countAt map default pickup beat ≡ 4294967295
     fit-past e = count-past map default pickup fit-rising beat fine e
 
     -- the same of the exact sums
-    same-test : (bar : ℕ) → bar ≤ 2147483648 → arrives map default pickup beat bar ≡ reaches map default pickup beat bar
+    same-test : (bar : ℕ) → bar ≤ lastBar → arrives map default pickup beat bar ≡ reaches map default pickup beat bar
     unfolding reaches
     same-test bar h = ap (λ (b : Beat). not (belowBeat b beat)) (sym (fit-exact bar h))
 
     pub fit-first : FirstBar map default pickup beat (countAt map default pickup beat)
     fit-first =
         record {
-          first = λ e. exactly (countAt map default pickup beat) (sym (same-test 2147483648 (omega arith)) ∙ e) (fit-least (sym (same-test 2147483648 (omega arith)) ∙ e));
-          past = λ e. fit-past (sym (same-test 2147483648 (omega arith)) ∙ e);
+          first = λ e. exactly (countAt map default pickup beat) (sym (same-test lastBar (omega arith)) ∙ e) (fit-least (sym (same-test lastBar (omega arith)) ∙ e));
+          past = λ e. fit-past (sym (same-test lastBar (omega arith)) ∙ e);
         }
       where
-        exactly : (bars : ℕ) → reaches map default pickup beat 2147483648 ≡ true → Least (reaches map default pickup beat) bars → Least (arrives map default pickup beat) bars
+        exactly : (bars : ℕ) → reaches map default pickup beat lastBar ≡ true → Least (reaches map default pickup beat) bars → Least (arrives map default pickup beat) bars
         exactly bars e least =
-            let h : bars ≤ 2147483648 = by-order 2147483648 bars (λ l. not-both (reaches map default pickup beat 2147483648) e (least .fails 2147483648 l)) (λ l. l) in
+            let h : bars ≤ lastBar = by-order lastBar bars (λ l. not-both (reaches map default pickup beat lastBar) e (least .fails lastBar l)) (λ l. l) in
             record { passes = same-test bars h ∙ least .passes; fails = λ bar l. same-test bar (omega arith) ∙ least .fails bar l }
 
 -- ---- the call

@@ -9,11 +9,12 @@ use borrow.Author.Tests.{lt-ltb, le-ltb, le-leb, lt-leb}
 use Rattle.numbers.specs.Answers.{accepted}
 use Rattle.numbers.proofs.Laws.{by-order}
 use Rattle.beats.specs.declared.Beat.{Beat}
+use Rattle.beats.specs.Beats.{zeroBeat}
 use Rattle.beats.specs.Sums.{addBeats, mulBeat, orMost}
 use Rattle.meter.specs.declared.MeterPoint.{MeterPoint}
 use Rattle.meter.specs.declared.Pickup.{Pickup}
 use Rattle.meter.specs.Meters.{later, nearer, lastAt, fallback, meterAt, lenOf, pickupOr, barLen, nextChange}
-use Rattle.meter.specs.Starts.{zeroBeat, afterBars, ending, segments, startOf, then, checkedBars, checkedSegments, ascends, openingOf}
+use Rattle.meter.specs.Starts.{afterBars, ending, segments, startOf, then, checkedBars, checkedSegments, ascends, openingOf}
 
 -- ---- the next change
 

@@ -5,12 +5,13 @@ use mathlib.Core.List.{List}
 use Prim.Native.Nat.{ℕ, zero, suc, _+_, _-_, _*_, _/_, _<_}
 use lib.Dec.{ltb}
 use Rattle.beats.specs.declared.Beat.{Beat}
+use Rattle.beats.specs.Beats.{zeroBeat}
 use Rattle.beats.specs.Sums.{belowBeat}
 use Rattle.meter.specs.declared.MeterPoint.{MeterPoint}
 use Rattle.meter.specs.declared.Pickup.{Pickup}
 use Rattle.meter.specs.declared.count.Upper.{Upper}
 use Rattle.meter.specs.declared.count.Upper.the-variants.{Bar, Unsearched}
-use Rattle.meter.specs.Starts.{zeroBeat, startOf}
+use Rattle.meter.specs.Starts.{startOf}
 
 -- ---- the search, over any test of bars
 

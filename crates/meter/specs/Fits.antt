@@ -7,7 +7,7 @@ use lib.Dec.{ltb, leb, eqb}
 use lib.ListN.{length}
 use lib.IntN.{pos}
 use lib.Signed.{leZ}
-use Rattle.numbers.specs.Answers.{Answer, accepted, refused}
+use Rattle.numbers.specs.Answers.{isAccepted}
 use Rattle.beats.specs.Beats.{isBeat}
 use Rattle.meter.specs.declared.MeterPoint.{MeterPoint}
 use Rattle.meter.specs.declared.Pickup.{Pickup}
@@ -41,15 +41,15 @@ abbrev pub forwardPickup : Pickup → Bool
 forwardPickup Absent = true
 forwardPickup (Present beat) = isBeat beat && leZ (pos 0) (beat .num)
 
-abbrev pub isAccepted : {A : Type 0} → Answer A → Bool
-isAccepted (accepted a) = true
-isAccepted (refused n facts) = false
+-- the last bar that a walk has to reach, 2^31
+abbrev pub lastBar : ℕ
+lastBar = 2147483648
 
 -- the map has no problems, the pickup is absent or at least 0, and no addition or scaling of the walk is refused for any bar from 0 to 2^31
 pub record Fits (map : List MeterPoint) (default : ℕ) (pickup : Pickup) : Type 0 where
   pub sound : soundMap map ≡ true
   pub forward : forwardPickup pickup ≡ true
-  pub walks : (bar : ℕ) → bar ≤ 2147483648 → isAccepted (checkedStart map default pickup bar) ≡ true
+  pub walks : (bar : ℕ) → bar ≤ lastBar → isAccepted (checkedStart map default pickup bar) ≡ true
 
 -- ---- what suffices for the last of these
 

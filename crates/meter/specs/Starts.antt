@@ -6,15 +6,12 @@ use lib.Dec.{ltb, leb}
 use lib.IntN.{pos}
 use Rattle.numbers.specs.Answers.{Answer, accepted, refused}
 use Rattle.beats.specs.declared.Beat.{Beat}
-use Rattle.beats.specs.Beats.{wholeBeat}
+use Rattle.beats.specs.Beats.{zeroBeat}
 use Rattle.beats.specs.Sums.{addBeats, mulBeat, orMost, sumOf}
 use Rattle.meter.specs.declared.MeterPoint.{MeterPoint}
 use Rattle.meter.specs.declared.Pickup.{Pickup}
 use Rattle.meter.specs.declared.bars.Opening.{Opening}
 use Rattle.meter.specs.Meters.{lenOf, barLen, nextChange}
-
-abbrev pub zeroBeat : Beat
-zeroBeat = wholeBeat (pos 0)
 
 -- ---- the walk, which turns a refused operation into (2^63 - 1)/1 and goes on
 
@@ -26,7 +23,6 @@ afterBars at len n = orMost (addBeats at (orMost (mulBeat len (pos n) 1)))
 unfoldable pub ending : ℕ → ℕ → MeterPoint → Beat → Beat
 ending bar end meter at = cond (ltb bar end) (afterBars at (lenOf meter) (end - bar)) at
 
--- what a score is made of is bound once for all that follows
 module _ (map : List MeterPoint) (default : ℕ) (pickup : Pickup) where
   -- from a bar, which starts at `at`, to the start of the bar `end`: the bars up to the next change are one segment.
   -- The first argument bounds the number of segments

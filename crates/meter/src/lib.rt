@@ -11,6 +11,9 @@ ghost use Rattle.meter.specs.Readings.{readMeter, readBar, readCount};
 pub mod bars;
 pub mod count;
 
+// The words of a map that is not too long: 65,536 points, three words each.
+pub const MOST_WORDS: usize = 196_608;
+
 // A time signature from a bar on.
 pub struct MeterPoint {
     pub bar: u32,
@@ -24,12 +27,14 @@ pub enum Pickup {
     Present(Beat),
 }
 
+// A meter, or what refuses it: Uneven 3, TooLong 4.
 pub enum MeterAnswer {
     Meter(MeterPoint),
     Uneven,
     TooLong,
 }
 
+// A bar's length or start, or what refuses it: Uneven 3, TooLong 4, NotBeat 1.
 pub enum BarAnswer {
     Beats(Beat),
     Uneven,
@@ -37,6 +42,7 @@ pub enum BarAnswer {
     NotBeat,
 }
 
+// A count of bars, or what refuses it: Uneven 3, TooLong 4, NotBeat 1.
 pub enum CountAnswer {
     Bars(u32),
     Uneven,
@@ -73,7 +79,7 @@ pub fn meter_at(words: &[u32], default: u32, bar: u32) -> MeterAnswer
     if words.len() % 3 != 0 {
         return MeterAnswer::Uneven;
     }
-    if words.len() > 196_608 {
+    if words.len() > MOST_WORDS {
         return MeterAnswer::TooLong;
     }
     MeterAnswer::Meter(bars::meter(words, default, bar))
@@ -86,7 +92,7 @@ pub fn bar_len(words: &[u32], default: u32, pickup: Pickup, bar: u32) -> BarAnsw
     if words.len() % 3 != 0 {
         return BarAnswer::Uneven;
     }
-    if words.len() > 196_608 {
+    if words.len() > MOST_WORDS {
         return BarAnswer::TooLong;
     }
     if !pickup.is_sound() {
@@ -102,7 +108,7 @@ pub fn beat_at_bar(words: &[u32], default: u32, pickup: Pickup, bar: u32) -> Bar
     if words.len() % 3 != 0 {
         return BarAnswer::Uneven;
     }
-    if words.len() > 196_608 {
+    if words.len() > MOST_WORDS {
         return BarAnswer::TooLong;
     }
     if !pickup.is_sound() {
@@ -112,14 +118,14 @@ pub fn beat_at_bar(words: &[u32], default: u32, pickup: Pickup, bar: u32) -> Bar
 }
 
 // How many bars have gone by at a beat: for a score that fits, the first bar that starts at or
-// after it.
+// after it, or 4,294,967,295 where bar 2^31 still starts before it.
 pub fn bar_count_at_beat(words: &[u32], default: u32, pickup: Pickup, beat: Beat) -> CountAnswer
     ensures { λ r. ⌜ readCount r ≡ countAnswer (now (words .entry)) default pickup beat ⌝ }
 {
     if words.len() % 3 != 0 {
         return CountAnswer::Uneven;
     }
-    if words.len() > 196_608 {
+    if words.len() > MOST_WORDS {
         return CountAnswer::TooLong;
     }
     if !pickup.is_sound() {

@@ -1,6 +1,5 @@
 -- A contract that is an equation has one answer, also where the answer is read through a definition that reads no two cases alike.
 use mathlib.Core.Path.{_≡_, sym, ap, _∙_}
-use mathlib.Core.List.{List, map}
 use Prim.Native.Nat.{ℕ}
 use Rattle.numbers.specs.Answers.{Answer, accepted, refused}
 
@@ -25,7 +24,3 @@ caseOf done left (refused n facts) = left n
 
 pub apart-cases : {A R : Type 0} (read : R → Answer A) (done : A → R) (left : ℕ → R) → ((r : R) → caseOf done left (read r) ≡ r) → Apart read
 apart-cases read done left same = apart-by read (caseOf done left) same
-
--- the rows of a table are questions, each with its answer
-abbrev pub Agree : {A B : Type 0} → (A → B) → List (A × B) → Type 0
-Agree f table = map f (map (λ row. row .0) table) ≡ map (λ row. row .1) table

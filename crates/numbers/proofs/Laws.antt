@@ -3,7 +3,7 @@
 -- a contract that is an equation has one answer
 pub use Rattle.numbers.proofs.Answers.{one-answer, Apart, one-reading, apart-by, caseOf, apart-cases}
 -- a table of questions and answers
-pub use Rattle.numbers.proofs.Answers.{Agree}
+pub use Rattle.numbers.specs.Answers.{Agree}
 -- a flag by its cases, by the kit; and a conjunction that holds
 pub use borrow.Table.Steps.{cases}
 pub use Rattle.numbers.proofs.Flags.{never, not-both, holds, both, and-left, and-right, cond-same}

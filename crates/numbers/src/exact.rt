@@ -15,6 +15,7 @@ pub struct Wide {
     pub lo: u64,
 }
 
+// 2^32: half of a word's bits.
 const HALF: u64 = 0x1_0000_0000;
 
 impl Wide {
@@ -172,6 +173,7 @@ impl Exact {
         Exact::times(x, crate::negative(y), crate::magnitude(y))
     }
 
+    // The sum of two numbers whose sizes' sum fits two words.
     fn plus(self, b: Exact) -> Exact
         requires { ⌜ sizeOf (self .size) + sizeOf (b .size) < 2 ^ 128 ⌝ }
         ensures { λ r. ⌜ r ≡ exactOf (valueOf self +ℤ valueOf b) ⌝ }

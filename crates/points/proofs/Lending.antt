@@ -47,7 +47,7 @@ use borrow.Table.Elements.{cut-app, join-app, at as at-elem}
 use Rattle.meter.specs.declared.MeterPoint.{MeterPoint}
 use Rattle.meter.proofs.MeterPoint as T
 use Rattle.meter.proofs.MeterPoint.Laws as T′
-use Rattle.problems.specs.Answers.{meterAnswer, meterAfter}
+use Rattle.problems.specs.Answers.{meterProblemsAnswer, meterAfter}
 use Rattle.problems.specs.Readings.{readProblems}
 use Rattle.problems.specs.declared.ProblemsAnswer.{ProblemsAnswer}
 use Rattle.problems.proofs.ProblemsAnswer as P
@@ -69,7 +69,7 @@ machP r = EL.val P.the-type P′.the-laws r
 
 -- what the call says of its answer and of the words after it
 abbrev pub Told : List MeterPoint → List ℕ → ProblemsAnswer → List ℕ → Type 0
-Told ys out r us = (readProblems r ≡ meterAnswer ys out) × (us ≡ meterAfter ys out)
+Told ys out r us = (readProblems r ≡ meterProblemsAnswer ys out) × (us ≡ meterAfter ys out)
 
 module _ {M : Type 1} (𝓤 : URA M) (H : Heap 𝓤) (A : Atoms 𝓤) (at-mem : Memory → SProp 𝓤) (run : Routine → Fun 𝓤) where
   abbrev pub Lent : Contract 𝓤

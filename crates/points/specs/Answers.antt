@@ -7,10 +7,10 @@ use lib.ListN.{length}
 use Rattle.numbers.specs.Answers.{Answer, refused}
 use Rattle.meter.specs.Meters.{pointsOf}
 use Rattle.problems.specs.Problems.{meterProblems}
-use Rattle.problems.specs.Answers.{meterAnswer, after}
+use Rattle.problems.specs.Answers.{meterProblemsAnswer, after}
 
 abbrev pub flatAnswer : List ℕ → List ℕ → Answer ℕ
-flatAnswer words out = cond (eqb (length words % 3) 0) (meterAnswer (pointsOf words) out) (refused 3 [])
+flatAnswer words out = cond (eqb (length words % 3) 0) (meterProblemsAnswer (pointsOf words) out) (refused 3 [])
 
 abbrev pub flatAfter : List ℕ → List ℕ → List ℕ
 flatAfter words out = after (meterProblems (pointsOf words)) (flatAnswer words out) out

@@ -6,7 +6,7 @@ ghost use mathlib.Core.Path.{_≡_};
 ghost use Prim.Native.Nat.{_≤_, _/_};
 ghost use lib.ListN.{length, take};
 ghost use Rattle.meter.specs.Meters.{pointsOf};
-ghost use Rattle.problems.specs.Answers.{meterAnswer, meterAfter};
+ghost use Rattle.problems.specs.Answers.{meterProblemsAnswer, meterAfter};
 ghost use Rattle.problems.specs.Readings.{readProblems};
 
 // More than the 256 points of a map without problems, so that one with some too many, problem 1,
@@ -36,7 +36,7 @@ pub fn points_of(words: &[u32]) -> [MeterPoint; MOST]
 // The problems of the first n points.
 pub fn problems_of(points: [MeterPoint; MOST], n: usize, out: &mut [u32]) -> ProblemsAnswer
     requires { ⌜ n ≤ 300 ⌝ }
-    ensures { λ r. ⌜ (readProblems r ≡ meterAnswer (take n points) (now (out .entry))) × (now (out .exit) ≡ meterAfter (take n points) (now (out .entry))) ⌝ }
+    ensures { λ r. ⌜ (readProblems r ≡ meterProblemsAnswer (take n points) (now (out .entry))) × (now (out .exit) ≡ meterAfter (take n points) (now (out .entry))) ⌝ }
 {
     problems::meter_map_problems(&points[..n], out)
 }

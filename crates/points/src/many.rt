@@ -6,11 +6,11 @@ ghost use mathlib.Core.Path.{_≡_};
 ghost use Prim.Native.Nat.{_≤_, _/_};
 ghost use lib.ListN.{length, take};
 ghost use Rattle.meter.specs.Meters.{pointsOf};
-ghost use Rattle.problems.specs.Answers.{meterAnswer, meterAfter};
+ghost use Rattle.problems.specs.Answers.{meterProblemsAnswer, meterAfter};
 ghost use Rattle.problems.specs.Readings.{readProblems};
 
-// One more than the 65,536 points of a map that is not too long: the call over points is lent one
-// too many too, and refuses by 4 itself.
+// One more than the 65,536 points of a map that is not too long, so that the call over points can
+// be lent one point too many, and itself refuses by 4.
 pub const MOST: usize = 65537;
 
 // The array that begins with the points of the words.
@@ -36,7 +36,7 @@ pub fn points_of(words: &[u32]) -> [MeterPoint; MOST]
 // The problems of the first n points.
 pub fn problems_of(points: [MeterPoint; MOST], n: usize, out: &mut [u32]) -> ProblemsAnswer
     requires { ⌜ n ≤ 65537 ⌝ }
-    ensures { λ r. ⌜ (readProblems r ≡ meterAnswer (take n points) (now (out .entry))) × (now (out .exit) ≡ meterAfter (take n points) (now (out .entry))) ⌝ }
+    ensures { λ r. ⌜ (readProblems r ≡ meterProblemsAnswer (take n points) (now (out .entry))) × (now (out .exit) ≡ meterAfter (take n points) (now (out .entry))) ⌝ }
 {
     problems::meter_map_problems(&points[..n], out)
 }

@@ -8,7 +8,7 @@ use borrow.Author.Tests.{le-leb, lt-leb}
 use lib.IntN.{ℤ}
 use lib.ListN.{length}
 use Rattle.numbers.specs.Answers.{accepted, refused}
-use Rattle.tempo.specs.Answers.{SoundMap}
+use Rattle.tempo.specs.Answers.{Walkable}
 use Rattle.problems.specs.Problems.{Problem, listed, tempoProblems}
 use Rattle.problems.specs.Answers.{counted, after}
 use Rattle.problems.specs.Passes.{Ready, put}
@@ -31,5 +31,5 @@ module _ (problems : List Problem) (out : List ℕ) where
 
 -- ---- a tempo map
 
-pub few : (nums : List ℤ) (dens tempos : List ℕ) → SoundMap nums dens tempos → length (tempoProblems (listed nums dens tempos)) ≤ 327680
+pub few : (nums : List ℤ) (dens tempos : List ℕ) → Walkable nums dens tempos → length (tempoProblems (listed nums dens tempos)) ≤ 327680
 few nums dens tempos map = omega (arith, tempo-few (listed nums dens tempos), listed-length nums dens tempos (map .even-dens) (map .even-tempos), map .short)

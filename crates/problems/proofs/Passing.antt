@@ -7,6 +7,7 @@ use native.Mathlib.Nat.{zero-add, add-zero}
 use native.Mathlib.Omega.{arith}
 use lib.ListN.{length, drop, length-append}
 use lib.Seq.{sets, length-sets, sets-eq}
+use Rattle.numbers.specs.Answers.{over}
 use Rattle.numbers.proofs.Laws.{sets-append, cond-same}
 use Rattle.problems.specs.Problems.{Problem, problemIf, flat}
 use Rattle.problems.specs.Passes.{put, Ready, Passed}
@@ -126,7 +127,7 @@ done {writing} {before} {out} {count} {whole} at = record {
 pub counts : {out after : List ℕ} {count : ℕ} {whole : List Problem} → Passed false out 0 whole after count → (count ≡ length whole) × (after ≡ out)
 counts passed = (omega (arith, passed .counted), passed .words)
 
-pub writes : (out : List ℕ) (whole : List Problem) → length whole ≤ length out / 3 → put true out 0 whole ≡ flat whole ++ drop (3 * length whole) out
+pub writes : (out : List ℕ) (whole : List Problem) → length whole ≤ length out / 3 → put true out 0 whole ≡ over (flat whole) out
 writes out whole fits =
     sets-eq (flat whole) out 0 (omega (arith, flat-length whole))
-    ∙ ap (λ (n : ℕ). flat whole ++ drop n out) (zero-add (length (flat whole)) ∙ flat-length whole)
+    ∙ ap (λ (n : ℕ). flat whole ++ drop n out) (zero-add (length (flat whole)))

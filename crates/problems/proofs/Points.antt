@@ -1,15 +1,13 @@
 -- The records of a point, by whether it is the first.
 use mathlib.Core.Path.{_≡_}
-use mathlib.Core.Bool.{not}
 use mathlib.Core.List.{[], _++_}
 use Prim.Native.Nat.{ℕ}
-use lib.Dec.{ltb, eqb}
 use borrow.Author.Tests.{eq-eqb, ne-eqb}
 use Rattle.beats.specs.declared.Beat.{Beat}
-use Rattle.problems.specs.Problems.{Listed, problemIf}
+use Rattle.problems.specs.Problems.{Listed, manyMeters, laterBar}
 use Rattle.problems.specs.Passes.{tempoFirst, tempoLater, tempoAt, meterHead}
 
-pub head-first : (n index bar : ℕ) → index ≡ 0 → meterHead n index bar ≡ problemIf (ltb 256 n) 1 0 n ++ problemIf (not (eqb bar 0)) 2 0 0
+pub head-first : (n index bar : ℕ) → index ≡ 0 → meterHead n index bar ≡ manyMeters n ++ laterBar bar
 unfolding meterHead
 head-first n index bar e = rw (eq-eqb index 0 e)
 

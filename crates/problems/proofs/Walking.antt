@@ -15,7 +15,7 @@ use Rattle.numbers.proofs.Laws.{never, both}
 use Rattle.meter.specs.declared.MeterPoint.{MeterPoint}
 use Rattle.problems.specs.declared.walk.State.{State}
 use Rattle.problems.specs.Problems.{Problem, meterPoints, meterProblems}
-use Rattle.problems.specs.Answers.{counted, after, meterAnswer, meterAfter}
+use Rattle.problems.specs.Answers.{counted, after, meterProblemsAnswer, meterAfter}
 use Rattle.problems.specs.Passes.{Passed, Walks, put, pointOf, meterFrom, begun, restarts, here, stepped, finished}
 use Rattle.problems.proofs.Calls.{ready, too-many, enough}
 use Rattle.problems.proofs.Passing.{Passing, begin, ready-next, on, done, passed-none}
@@ -158,7 +158,7 @@ module _ (points : List MeterPoint) (out : List ℕ) where
 
   module _ (s : State) (words : List ℕ) (stage : Stage s words) (over : s .n ≤ s .at) where
     abbrev Ends : Type 0
-    Ends = (finished s ≡ meterAnswer points out) × (words ≡ meterAfter points out)
+    Ends = (finished s ≡ meterProblemsAnswer points out) × (words ≡ meterAfter points out)
 
     refuses : Refused s words → Ends
     refuses r = (rw (lt-leb (s .n) 65536 (r .over), lt-leb (length points) 65536 many), rw (lt-leb (length points) 65536 many) (r .still))

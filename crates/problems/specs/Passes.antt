@@ -3,16 +3,15 @@ use mathlib.Core.Bool.{Bool, true, false, not, cond, _&&_}
 use mathlib.Core.Path.{_≡_}
 use mathlib.Core.List.{List, [], _∷_, _++_}
 use Prim.Native.Nat.{ℕ, suc, _+_, _*_, _/_, _≤_, _<_}
-use lib.Dec.{leb, ltb, eqb}
+use lib.Dec.{leb, eqb}
 use lib.IntN.{ℤ, pos}
 use lib.ListN.{length, getD}
 use lib.Seq.{sets}
 use Rattle.numbers.specs.Answers.{Answer, accepted, refused}
 use Rattle.beats.specs.declared.Beat.{Beat}
-use Rattle.beats.specs.Sums.{belowBeat}
 use Rattle.meter.specs.declared.MeterPoint.{MeterPoint}
 use Rattle.problems.specs.declared.walk.State.{State}
-use Rattle.problems.specs.Problems.{Problem, Listed, problemIf, flat, meterPoint, tempoBits, isZero}
+use Rattle.problems.specs.Problems.{Problem, Listed, flat, manyMeters, laterBar, meterPoint, manyTempos, laterBeat, tempoBits, notAbove}
 
 -- ---- a part of a pass, from a count of records on
 
@@ -40,11 +39,11 @@ beatAt nums dens i = record { num = getD nums i (pos 0); den = getD dens i 0 }
 
 -- the records of the first point, with those of the map
 unfoldable pub tempoFirst : ℕ → Listed → List Problem
-tempoFirst n point = problemIf (ltb 1024 n) 6 0 n ++ (problemIf (not (isZero (point .at))) 7 0 0 ++ tempoBits 0 point)
+tempoFirst n point = manyTempos n ++ (laterBeat (point .at) ++ tempoBits 0 point)
 
 -- the records of a point after a point at the beat `before`
 unfoldable pub tempoLater : ℕ → Beat → Listed → List Problem
-tempoLater index before point = tempoBits index point ++ problemIf (not (belowBeat before (point .at))) 9 index 0
+tempoLater index before point = tempoBits index point ++ notAbove index before (point .at)
 
 unfoldable pub tempoAt : ℕ → ℕ → Beat → Listed → List Problem
 tempoAt n index before point = cond (eqb index 0) (tempoFirst n point) (tempoLater index before point)
@@ -61,15 +60,15 @@ pointOf bar numerator denominator = record { bar = bar; numerator = numerator; d
 
 -- the records of the map, which stand before those of the first point
 unfoldable pub meterHead : ℕ → ℕ → ℕ → List Problem
-meterHead n index bar = cond (eqb index 0) (problemIf (ltb 256 n) 1 0 n ++ problemIf (not (eqb bar 0)) 2 0 0) []
+meterHead n index bar = cond (eqb index 0) (manyMeters n ++ laterBar bar) []
 
-unfoldable pub meterAt : ℕ → ℕ → ℕ → MeterPoint → List Problem
-meterAt n index low point = meterHead n index (point .bar) ++ meterPoint index low point
+unfoldable pub recordsAt : ℕ → ℕ → ℕ → MeterPoint → List Problem
+recordsAt n index low point = meterHead n index (point .bar) ++ meterPoint index low point
 
 -- each point from an index on
 unfoldable pub meterFrom : ℕ → ℕ → ℕ → List MeterPoint → List Problem
 meterFrom n index low [] = []
-meterFrom n index low (point ∷ rest) = meterAt n index low point ++ meterFrom n (suc index) (suc (point .bar)) rest
+meterFrom n index low (point ∷ rest) = recordsAt n index low point ++ meterFrom n (suc index) (suc (point .bar)) rest
 
 -- ---- the walk over meter points
 
@@ -90,7 +89,7 @@ turned s count bar =
 
 -- the records of the point that the walk stands at
 abbrev pub here : State → MeterPoint → List Problem
-here s point = meterAt (s .n) (s .at) (s .low) point
+here s point = recordsAt (s .n) (s .at) (s .low) point
 
 abbrev pub stepped : State → MeterPoint → State
 stepped s point = turned s (s .count + length (here s point)) (point .bar)

@@ -36,14 +36,21 @@ unfoldable pub meterPoints : ℕ → ℕ → List MeterPoint → List Problem
 meterPoints index low [] = []
 meterPoints index low (point ∷ rest) = meterPoint index low point ++ meterPoints (suc index) (suc (point .bar)) rest
 
--- 2 the first bar is not 0
+-- 1 over 256 points (with their count)
+abbrev pub manyMeters : ℕ → List Problem
+manyMeters n = problemIf (ltb 256 n) 1 0 n
+
+-- 2 a first bar that is not 0
+abbrev pub laterBar : ℕ → List Problem
+laterBar bar = problemIf (not (eqb bar 0)) 2 0 0
+
 abbrev pub firstBar : List MeterPoint → List Problem
 firstBar [] = []
-firstBar (point ∷ rest) = problemIf (not (eqb (point .bar) 0)) 2 0 0
+firstBar (point ∷ rest) = laterBar (point .bar)
 
--- 1 over 256 points (with their count), then 2, then each point's. No bar is below 0, so the first point is not held to one before it
+-- 1, then 2, then each point's. No bar is below 0, so the first point is not held to one before it
 unfoldable pub meterProblems : List MeterPoint → List Problem
-meterProblems map = problemIf (ltb 256 (length map)) 1 0 (length map) ++ (firstBar map ++ meterPoints 0 0 map)
+meterProblems map = manyMeters (length map) ++ (firstBar map ++ meterPoints 0 0 map)
 
 -- ---- a tempo map
 
@@ -67,25 +74,31 @@ soundTempo tempo = lt float0 tempo && lt tempo (inf false)
 unfoldable pub tempoBits : ℕ → Listed → List Problem
 tempoBits index point = problemIf (not (soundTempo (ofBits binary32 (point .bits)))) 8 index (point .bits)
 
--- each point from an index on, after a point at the beat `before`: 8, then 9 a beat that is not above the one before
+-- 9 a beat that is not above the one before
+abbrev pub notAbove : ℕ → Beat → Beat → List Problem
+notAbove index before at = problemIf (not (belowBeat before at)) 9 index 0
+
+-- each point from an index on, after a point at the beat `before`: 8, then 9
 unfoldable pub tempoPointsAfter : ℕ → Beat → List Listed → List Problem
 tempoPointsAfter index before [] = []
-tempoPointsAfter index before (point ∷ rest) =
-    tempoBits index point
-    ++ (problemIf (not (belowBeat before (point .at))) 9 index 0
-    ++ tempoPointsAfter (suc index) (point .at) rest)
+tempoPointsAfter index before (point ∷ rest) = tempoBits index point ++ (notAbove index before (point .at) ++ tempoPointsAfter (suc index) (point .at) rest)
 
 -- a beat is 0 where its numerator is
 abbrev pub isZero : Beat → Bool
 isZero beat = eqb (natAbs (beat .num)) 0
 
--- 6 over 1,024 points (with their count), 7 the first beat is not 0, then each point's
+-- 6 over 1,024 points (with their count)
+abbrev pub manyTempos : ℕ → List Problem
+manyTempos n = problemIf (ltb 1024 n) 6 0 n
+
+-- 7 a first beat that is not 0
+abbrev pub laterBeat : Beat → List Problem
+laterBeat at = problemIf (not (isZero at)) 7 0 0
+
+-- 6, then 7, then each point's
 unfoldable pub tempoProblems : List Listed → List Problem
 tempoProblems [] = []
-tempoProblems (first ∷ rest) =
-    problemIf (ltb 1024 (length (first ∷ rest))) 6 0 (length (first ∷ rest))
-    ++ (problemIf (not (isZero (first .at))) 7 0 0
-    ++ (tempoBits 0 first ++ tempoPointsAfter 1 (first .at) rest))
+tempoProblems (first ∷ rest) = manyTempos (length (first ∷ rest)) ++ (laterBeat (first .at) ++ (tempoBits 0 first ++ tempoPointsAfter 1 (first .at) rest))
 
 -- ---- the lent words
 

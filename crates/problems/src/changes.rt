@@ -7,9 +7,9 @@ ghost use mathlib.Core.Path.{_≡_};
 ghost use Prim.Native.Nat.{_<_};
 ghost use lib.Ieee.{binary32, ofBits};
 ghost use lib.ListN.{length};
-ghost use Rattle.tempo.specs.Answers.{SoundMap};
+ghost use Rattle.tempo.specs.Answers.{Walkable};
 ghost use Rattle.problems.specs.Problems.{soundTempo, tempoBits, isZero, listed, tempoProblems};
-ghost use Rattle.problems.specs.Answers.{counted, after};
+ghost use Rattle.problems.specs.Answers.{walkableAnswer, walkableAfter};
 ghost use Rattle.problems.specs.Readings.{readProblems};
 ghost use Rattle.problems.specs.Passes.{Ready, Passed, listedAt, beatAt, tempoFirst, tempoLater, tempoAt};
 
@@ -100,7 +100,7 @@ fn beat_at(nums: &[i64], dens: &[u32], i: usize) -> Beat
 
 // A pass over the points: it counts the records, or writes them too.
 fn pass(nums: &[i64], dens: &[u32], tempos: &[u32], out: &mut [u32], writing: bool) -> u32
-    requires { ⌜ SoundMap (now nums) (now dens) (now tempos) × Ready writing (now out) 0 (tempoProblems (listed (now nums) (now dens) (now tempos))) ⌝ }
+    requires { ⌜ Walkable (now nums) (now dens) (now tempos) × Ready writing (now out) 0 (tempoProblems (listed (now nums) (now dens) (now tempos))) ⌝ }
     ensures { λ r. ⌜ Passed writing (now (out .entry)) 0 (tempoProblems (listed (now (nums .entry)) (now (dens .entry)) (now (tempos .entry)))) (now (out .exit)) r ⌝ }
 {
     let n = nums.len();
@@ -128,8 +128,8 @@ fn pass(nums: &[i64], dens: &[u32], tempos: &[u32], out: &mut [u32], writing: bo
 // The problems of a map that can be walked: the records are counted, and written where there is
 // room for them.
 pub fn list(nums: &[i64], dens: &[u32], tempos: &[u32], out: &mut [u32]) -> ProblemsAnswer
-    requires { ⌜ SoundMap (now nums) (now dens) (now tempos) ⌝ }
-    ensures { λ r. ⌜ (readProblems r ≡ counted (tempoProblems (listed (now (nums .entry)) (now (dens .entry)) (now (tempos .entry)))) (now (out .entry))) × (now (out .exit) ≡ after (tempoProblems (listed (now (nums .entry)) (now (dens .entry)) (now (tempos .entry)))) (counted (tempoProblems (listed (now (nums .entry)) (now (dens .entry)) (now (tempos .entry)))) (now (out .entry))) (now (out .entry))) ⌝ }
+    requires { ⌜ Walkable (now nums) (now dens) (now tempos) ⌝ }
+    ensures { λ r. ⌜ (readProblems r ≡ walkableAnswer (now (nums .entry)) (now (dens .entry)) (now (tempos .entry)) (now (out .entry))) × (now (out .exit) ≡ walkableAfter (now (nums .entry)) (now (dens .entry)) (now (tempos .entry)) (now (out .entry))) ⌝ }
 {
     let count = pass(nums, dens, tempos, out, false);
     if count as usize > out.len() / 3 {

@@ -6,8 +6,11 @@ use meter::bars::good_denominator;
 ghost use mathlib.Core.Path.{_≡_};
 ghost use Prim.Native.Nat.{_<_};
 ghost use Rattle.problems.specs.Problems.{meterPoint};
-ghost use Rattle.problems.specs.Passes.{Ready, Passed, Walks, put, pointOf, meterHead, meterAt, begun, restarts, turned, here, stepped, finished};
+ghost use Rattle.problems.specs.Passes.{Ready, Passed, Walks, put, pointOf, meterHead, recordsAt, begun, restarts, turned, here, stepped, finished};
 ghost use Rattle.problems.specs.Readings.{readProblems};
+
+// The points of a map that is not too long.
+const MOST_POINTS: usize = 65_536;
 
 // Where the walk stands among n points, which pass it is, and the records so far of those that
 // there is room for.
@@ -63,8 +66,8 @@ fn records_at(
     numerator: u32,
     denominator: u32,
 ) -> u32
-    requires { ⌜ Ready (s .writing) (now out) (s .count) (meterAt n index (s .low) (pointOf bar numerator denominator)) ⌝ }
-    ensures { λ r. ⌜ Passed (s .writing) (now (out .entry)) (s .count) (meterAt n index (s .low) (pointOf bar numerator denominator)) (now (out .exit)) r ⌝ }
+    requires { ⌜ Ready (s .writing) (now out) (s .count) (recordsAt n index (s .low) (pointOf bar numerator denominator)) ⌝ }
+    ensures { λ r. ⌜ Passed (s .writing) (now (out .entry)) (s .count) (recordsAt n index (s .low) (pointOf bar numerator denominator)) (now (out .exit)) r ⌝ }
 {
     let writing = s.writing;
     let a = head(out, writing, s.count, n, index, bar);
@@ -104,10 +107,11 @@ fn turn(s: State, count: u32, bar: u32) -> State
     }
 }
 
+// Before the first point of the first pass, or behind the last where there are too many.
 pub fn begin(n: usize, words: usize) -> State
     ensures { λ r. ⌜ r ≡ begun n words ⌝ }
 {
-    let at = if n <= 65_536 { 0 } else { n };
+    let at = if n <= MOST_POINTS { 0 } else { n };
     State {
         n,
         room: words / 3,
@@ -129,10 +133,11 @@ pub fn step(out: &mut [u32], s: State, bar: u32, numerator: u32, denominator: u3
     turn(s, count, bar)
 }
 
+// The answer behind the last pass.
 pub fn finish(s: State) -> ProblemsAnswer
     ensures { λ r. ⌜ readProblems r ≡ finished s ⌝ }
 {
-    if s.n > 65_536 {
+    if s.n > MOST_POINTS {
         return ProblemsAnswer::TooLong;
     }
     if s.count as usize > s.room {

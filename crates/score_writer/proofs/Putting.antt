@@ -14,7 +14,7 @@ use Rattle.text.specs.Texts.{Puts}
 use Rattle.text.proofs.Laws.{behind, retext, nothing}
 use Rattle.beats.specs.declared.Beat.{Beat}
 use Rattle.tempo.specs.declared.MapTest.{MapTest}
-use Rattle.tempo.specs.declared.MapTest.the-variants.{Sound, Uneven, TooLong, NotBeat}
+use Rattle.tempo.specs.declared.MapTest.the-variants.{Fine, Uneven, TooLong, NotBeat}
 use Rattle.tempo.specs.Answers.{allBeats, mapTest}
 use Rattle.score.specs.declared.Score.{Score}
 use Rattle.score_writer.specs.Files.{wordBytes, wordsBytes, pickupBeat, headerWords, pointWords, tempoWords, fileOf}
@@ -154,7 +154,7 @@ module _ (score : Score) (meter : List ℕ) (nums : List ℤ) (dens bits : List 
 -- ---- the test of the beats
 
 abbrev pub isSound : MapTest → Bool
-isSound Sound = true
+isSound Fine = true
 isSound Uneven = false
 isSound TooLong = false
 isSound NotBeat = false
@@ -164,6 +164,6 @@ pub sound-is : (nums : List ℤ) (dens bits : List ℕ) → length dens ≡ leng
 unfolding mapTest
 sound-is nums dens bits e f h = simp (eq-eqb (length dens) (length nums) e, eq-eqb (length bits) (length nums) f, le-leb (length nums) 65536 h) (go (allBeats nums dens))
   where
-    go : (t : Bool) → isSound (cond t Sound NotBeat) ≡ t
+    go : (t : Bool) → isSound (cond t Fine NotBeat) ≡ t
     go true = refl
     go false = refl

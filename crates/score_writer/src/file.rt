@@ -17,7 +17,7 @@ pub fn beats_good(count: usize, nums: &[i64], dens: &[u32], bpms: &[u32]) -> boo
     ensures { λ r. ⌜ r ≡ allBeats (take count (now (nums .entry))) (take count (now (dens .entry))) ⌝ }
 {
     match tempo::test(&nums[..count], &dens[..count], &bpms[..count]) {
-        MapTest::Sound => true,
+        MapTest::Fine => true,
         MapTest::Uneven => false,
         MapTest::TooLong => false,
         MapTest::NotBeat => false,

@@ -8,9 +8,8 @@ use native.Mathlib.Omega.{arith}
 use borrow.Author.Tests.{eq-eqb}
 use lib.Dec.{leb, eqb}
 use lib.ListN.{length, getD}
-use Rattle.numbers.specs.Answers.{Answer, accepted, refused, number, given}
+use Rattle.numbers.specs.Answers.{Answer, accepted, refused, number, given, isAccepted}
 use Rattle.numbers.proofs.Laws.{never, and-left, and-right}
-use Rattle.meter.specs.Fits.{isAccepted}
 use Rattle.transport.specs.declared.playhead.Run.{Run}
 use Rattle.transport.specs.declared.Transport.{Transport}
 use Rattle.transport.specs.Transports.{sound, playing}

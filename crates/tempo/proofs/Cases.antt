@@ -4,9 +4,8 @@ use mathlib.Core.List.{List, [], _∷_}
 use Prim.Native.Nat.{ℕ}
 use lib.IntN.{ℤ, pos, negsuc}
 use lib.Ieee.{binary64, ofBits, toBits, isNan, ofInt, add, sub, mul, div, lt, le}
-use Rattle.numbers.specs.Answers.{number}
+use Rattle.numbers.specs.Answers.{number, Agree}
 use Rattle.numbers.specs.Divisor.{gcdOf, remainders}
-use Rattle.numbers.proofs.Laws.{Agree}
 use Rattle.rounding.specs.Floats.{maximum, float0}
 use Rattle.tempo.specs.Tempos.{TempoPoint, tempoPoints, walk, wholeWalk, secondsAtBeat, tempoAtBeat, beatAtSeconds}
 use Rattle.tempo.specs.Answers.{allBeats, mapTest, secondsAnswer}

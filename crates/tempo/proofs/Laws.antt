@@ -1,7 +1,7 @@
 -- What crates above may use of tempo maps: they unfold neither the points nor the walks.
 
--- what the test of a map found, and what is known of a map that it finds sound
-pub use Rattle.tempo.proofs.Testing.{finding, sound}
+-- what the test of a map found, and what is known of a map that passes it
+pub use Rattle.tempo.proofs.Testing.{finding, walkable}
 -- the points: none without numerators, and one at a time
 pub use Rattle.tempo.proofs.Walking.{no-points, points-step}
 -- a walk over the points from index i on: how it begins, where it ends or stops, and how it goes on

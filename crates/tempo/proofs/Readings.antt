@@ -14,5 +14,5 @@ tempos-apart =
 
 pub tests-apart : Apart readTest
 tests-apart =
-    apart-cases readTest (λ u. M.Sound) (λ n. cond (eqb n 3) M.Uneven (cond (eqb n 4) M.TooLong M.NotBeat))
-    (λ r. elim r [ M.Sound ↦ refl | M.Uneven ↦ refl | M.TooLong ↦ refl | M.NotBeat ↦ refl ])
+    apart-cases readTest (λ u. M.Fine) (λ n. cond (eqb n 3) M.Uneven (cond (eqb n 4) M.TooLong M.NotBeat))
+    (λ r. elim r [ M.Fine ↦ refl | M.Uneven ↦ refl | M.TooLong ↦ refl | M.NotBeat ↦ refl ])

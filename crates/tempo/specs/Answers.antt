@@ -10,7 +10,7 @@ use lib.ListN.{length}
 use Rattle.numbers.specs.Answers.{Answer, accepted, refused}
 use Rattle.beats.specs.Beats.{isBeat}
 use Rattle.tempo.specs.declared.MapTest.{MapTest}
-use Rattle.tempo.specs.declared.MapTest.the-variants.{Sound, Uneven, TooLong, NotBeat}
+use Rattle.tempo.specs.declared.MapTest.the-variants.{Fine, Uneven, TooLong, NotBeat}
 use Rattle.tempo.specs.Tempos.{tempoPoints, secondsAtBeat, tempoAtBeat, beatAtSeconds}
 
 -- each numerator with its denominator is a beat
@@ -23,36 +23,36 @@ allBeats (num ∷ nums) (den ∷ dens) = isBeat (record { num = num; den = den }
 unfoldable pub mapTest : List ℤ → List ℕ → List ℕ → MapTest
 mapTest nums dens tempos =
     cond (eqb (length dens) (length nums) && eqb (length tempos) (length nums))
-    (cond (leb (length nums) 65536) (cond (allBeats nums dens) Sound NotBeat) TooLong)
+    (cond (leb (length nums) 65536) (cond (allBeats nums dens) Fine NotBeat) TooLong)
     Uneven
 
 -- a map that can be walked: none of the three applies
-pub record SoundMap (nums : List ℤ) (dens tempos : List ℕ) : Type 0 where
+pub record Walkable (nums : List ℤ) (dens tempos : List ℕ) : Type 0 where
   pub even-dens : length dens ≡ length nums
   pub even-tempos : length tempos ≡ length nums
   pub short : length nums ≤ 65536
   pub beats : allBeats nums dens ≡ true
 
--- what a call answers to a map that is sound, and to one that is not
-abbrev pub ifSound : {A : Type 0} → MapTest → Answer A → Answer A
-ifSound Sound answer = answer
-ifSound Uneven answer = refused 3 []
-ifSound TooLong answer = refused 4 []
-ifSound NotBeat answer = refused 1 []
+-- what a call answers to a map that can be walked, and to one that cannot
+abbrev pub ifWalkable : {A : Type 0} → MapTest → Answer A → Answer A
+ifWalkable Fine answer = answer
+ifWalkable Uneven answer = refused 3 []
+ifWalkable TooLong answer = refused 4 []
+ifWalkable NotBeat answer = refused 1 []
 
 -- the test alone
 abbrev pub testAnswer : List ℤ → List ℕ → List ℕ → Answer Unit
-testAnswer nums dens tempos = ifSound (mapTest nums dens tempos) (accepted tt)
+testAnswer nums dens tempos = ifWalkable (mapTest nums dens tempos) (accepted tt)
 
 -- 5 where there are no points
 abbrev pub ifPoints : {A : Type 0} → List ℤ → Answer A → Answer A
 ifPoints nums answer = cond (eqb (length nums) 0) (refused 5 []) answer
 
 abbrev pub secondsAnswer : List ℤ → List ℕ → List ℕ → Float → Answer Float
-secondsAnswer nums dens tempos beat = ifSound (mapTest nums dens tempos) (ifPoints nums (accepted (secondsAtBeat (tempoPoints nums dens tempos) beat)))
+secondsAnswer nums dens tempos beat = ifWalkable (mapTest nums dens tempos) (ifPoints nums (accepted (secondsAtBeat (tempoPoints nums dens tempos) beat)))
 
 abbrev pub tempoAnswer : List ℤ → List ℕ → List ℕ → Float → Answer Float
-tempoAnswer nums dens tempos beat = ifSound (mapTest nums dens tempos) (ifPoints nums (accepted (tempoAtBeat (tempoPoints nums dens tempos) beat)))
+tempoAnswer nums dens tempos beat = ifWalkable (mapTest nums dens tempos) (ifPoints nums (accepted (tempoAtBeat (tempoPoints nums dens tempos) beat)))
 
 abbrev pub beatAnswer : List ℤ → List ℕ → List ℕ → Float → Answer Float
-beatAnswer nums dens tempos seconds = ifSound (mapTest nums dens tempos) (ifPoints nums (accepted (beatAtSeconds (tempoPoints nums dens tempos) seconds)))
+beatAnswer nums dens tempos seconds = ifWalkable (mapTest nums dens tempos) (ifPoints nums (accepted (beatAtSeconds (tempoPoints nums dens tempos) seconds)))

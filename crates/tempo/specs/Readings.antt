@@ -15,7 +15,7 @@ readTempo NotBeat = refused 1 []
 readTempo Empty = refused 5 []
 
 abbrev pub readTest : MapTest → Answer Unit
-readTest M.Sound = accepted tt
+readTest M.Fine = accepted tt
 readTest M.Uneven = refused 3 []
 readTest M.TooLong = refused 4 []
 readTest M.NotBeat = refused 1 []

@@ -10,6 +10,7 @@ use beats::Beat;
 
 pub mod walks;
 
+// What a walk gives, or what refuses it: Uneven 3, TooLong 4, NotBeat 1, Empty 5.
 pub enum TempoAnswer {
     Value(f64),
     Uneven,
@@ -18,9 +19,10 @@ pub enum TempoAnswer {
     Empty,
 }
 
-// What a map's test finds.
+// What a map's test finds: that it can be walked, whatever problems it has; or Uneven 3, TooLong 4,
+// NotBeat 1.
 pub enum MapTest {
-    Sound,
+    Fine,
     Uneven,
     TooLong,
     NotBeat,
@@ -59,7 +61,7 @@ pub fn test(nums: &[i64], dens: &[u32], tempos: &[u32]) -> MapTest
         return MapTest::TooLong;
     }
     if all_beats(nums, dens) {
-        MapTest::Sound
+        MapTest::Fine
     } else {
         MapTest::NotBeat
     }
@@ -73,7 +75,7 @@ pub fn tempo_map_seconds_at(nums: &[i64], dens: &[u32], tempos: &[u32], beat: f6
         MapTest::Uneven => TempoAnswer::Uneven,
         MapTest::TooLong => TempoAnswer::TooLong,
         MapTest::NotBeat => TempoAnswer::NotBeat,
-        MapTest::Sound => {
+        MapTest::Fine => {
             if nums.len() == 0 {
                 TempoAnswer::Empty
             } else {
@@ -91,7 +93,7 @@ pub fn tempo_map_bpm_at(nums: &[i64], dens: &[u32], tempos: &[u32], beat: f64) -
         MapTest::Uneven => TempoAnswer::Uneven,
         MapTest::TooLong => TempoAnswer::TooLong,
         MapTest::NotBeat => TempoAnswer::NotBeat,
-        MapTest::Sound => {
+        MapTest::Fine => {
             if nums.len() == 0 {
                 TempoAnswer::Empty
             } else {
@@ -114,7 +116,7 @@ pub fn tempo_map_beat_at_seconds(
         MapTest::Uneven => TempoAnswer::Uneven,
         MapTest::TooLong => TempoAnswer::TooLong,
         MapTest::NotBeat => TempoAnswer::NotBeat,
-        MapTest::Sound => {
+        MapTest::Fine => {
             if nums.len() == 0 {
                 TempoAnswer::Empty
             } else {

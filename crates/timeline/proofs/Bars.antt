@@ -9,7 +9,7 @@ use lib.IntN.{pos}
 use lib.Ieee.{Float, binary64, ofInt, add}
 use Rattle.rounding.specs.Floats.{clamp, float0, float1}
 use Rattle.beats.specs.declared.Beat.{Beat}
-use Rattle.beats.specs.Beats.{wholeBeat}
+use Rattle.beats.specs.Beats.{zeroBeat}
 use Rattle.beats.specs.Sums.{belowBeat}
 use Rattle.meter.specs.declared.MeterPoint.{MeterPoint}
 use Rattle.meter.specs.Meters.{barLen}
@@ -18,7 +18,7 @@ use Rattle.transport.specs.declared.Transport.{Transport}
 use Rattle.timeline.specs.Places.{currentBar, within, barsAt, gridBar}
 
 -- whether a bar lasts any time, as the code finds it
-pub lasts : (len zero : Beat) (answer found : Bool) → zero ≡ wholeBeat (pos 0) → answer ≡ belowBeat zero len → answer ≡ found → belowBeat (wholeBeat (pos 0)) len ≡ found
+pub lasts : (len zero : Beat) (answer found : Bool) → zero ≡ zeroBeat → answer ≡ belowBeat zero len → answer ≡ found → belowBeat zeroBeat len ≡ found
 lasts len zero answer found z e is = ap (λ (x : Beat). belowBeat x len) (sym z) ∙ sym e ∙ is
 
 -- each step by what it is

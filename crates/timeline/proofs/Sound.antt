@@ -7,7 +7,7 @@ use lib.IntN.{ℤ}
 use Rattle.numbers.specs.Answers.{Answer, accepted, refused}
 use Rattle.meter.specs.Meters.{pointsOf}
 use Rattle.tempo.specs.declared.MapTest.{MapTest}
-use Rattle.tempo.specs.declared.MapTest.the-variants.{Sound, Uneven, TooLong, NotBeat}
+use Rattle.tempo.specs.declared.MapTest.the-variants.{Fine, Uneven, TooLong, NotBeat}
 use Rattle.tempo.specs.Tempos.{tempoPoints}
 use Rattle.tempo.specs.Answers.{mapTest}
 use Rattle.transport.specs.declared.Transport.{Transport}
@@ -26,7 +26,7 @@ module _ (t : Transport) (is : sound t ≡ true) where
   -- a change that keeps it sound by itself does so behind the test of the maps
   kept : (finding : MapTest) (change : Answer Transport) → sound (ifSound t change .transport) ≡ true → sound (handed t (ifTested t finding change) .transport) ≡ true
   unfolding ifTested
-  kept Sound change h = h
+  kept Fine change h = h
   kept Uneven change h = handed-back (sound t) 3
   kept TooLong change h = handed-back (sound t) 4
   kept NotBeat change h = handed-back (sound t) 1

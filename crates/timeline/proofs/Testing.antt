@@ -8,8 +8,8 @@ use lib.IntN.{ℤ}
 use borrow.Author.Tests.{le-leb, lt-leb}
 use Rattle.numbers.specs.Answers.{Answer, refused}
 use Rattle.tempo.specs.declared.MapTest.{MapTest}
-use Rattle.tempo.specs.declared.MapTest.the-variants.{Sound, Uneven, TooLong, NotBeat}
-use Rattle.tempo.specs.Answers.{mapTest, ifSound}
+use Rattle.tempo.specs.declared.MapTest.the-variants.{Fine, Uneven, TooLong, NotBeat}
+use Rattle.tempo.specs.Answers.{mapTest, ifWalkable}
 use Rattle.tempo.proofs.Laws as tempo
 use Rattle.transport.specs.declared.Transport.{Transport}
 use Rattle.transport.specs.Transports.{sound}
@@ -37,9 +37,9 @@ module _ {A : Type 0} (t : Transport) (finding : MapTest) (answer : Answer A) wh
   unfolding testOf ifTested
   by-test e is = ap (λ (x : Test). ifPassed x answer) (sym is ∙ e) ∙ go (sound t) finding
     where
-      go : (q : Bool) (f : MapTest) → ifPassed (cond q (tested f) (Refused R.Unsound)) answer ≡ cond q (ifSound f answer) (refused 12 [])
+      go : (q : Bool) (f : MapTest) → ifPassed (cond q (tested f) (Refused R.Unsound)) answer ≡ cond q (ifWalkable f answer) (refused 12 [])
       go false f = refl
-      go true Sound = refl
+      go true Fine = refl
       go true Uneven = refl
       go true TooLong = refl
       go true NotBeat = refl
@@ -70,36 +70,36 @@ module _ {n bar : ℕ} (is : n ≡ bar) where
 
 pub record Passes (t : Transport) (finding : MapTest) : Type 0 where
   pub transport : sound t ≡ true
-  pub lists : finding ≡ Sound
+  pub lists : finding ≡ Fine
 
 pub passes : (t : Transport) (finding : MapTest) → Passed ≡ testOf t finding → Passes t finding
 unfolding testOf
 passes t finding e = go (sound t) finding refl refl e
   where
     go : (q : Bool) (f : MapTest) → sound t ≡ q → finding ≡ f → Passed ≡ cond q (tested f) (Refused R.Unsound) → Passes t finding
-    go true Sound s l e = record { transport = s; lists = l }
+    go true Fine s l e = record { transport = s; lists = l }
     go true Uneven s l e = let z : _≡_ {A = ℕ} 0 1 = cc in absurd (omega arith)
     go true TooLong s l e = let z : _≡_ {A = ℕ} 0 1 = cc in absurd (omega arith)
     go true NotBeat s l e = let z : _≡_ {A = ℕ} 0 1 = cc in absurd (omega arith)
     go false f s l e = let z : _≡_ {A = ℕ} 0 1 = cc in absurd (omega arith)
 
 -- of two findings the worse is sound only where both are
-pub both-sound : (a b : MapTest) → worse a b ≡ Sound → (a ≡ Sound) × (b ≡ Sound)
-both-sound Sound b e = (refl, e)
+pub both-sound : (a b : MapTest) → worse a b ≡ Fine → (a ≡ Fine) × (b ≡ Fine)
+both-sound Fine b e = (refl, e)
 both-sound Uneven b e = let z : _≡_ {A = ℕ} 0 1 = cc in absurd (omega arith)
-both-sound TooLong Sound e = let z : _≡_ {A = ℕ} 0 1 = cc in absurd (omega arith)
+both-sound TooLong Fine e = let z : _≡_ {A = ℕ} 0 1 = cc in absurd (omega arith)
 both-sound TooLong Uneven e = let z : _≡_ {A = ℕ} 0 1 = cc in absurd (omega arith)
 both-sound TooLong TooLong e = let z : _≡_ {A = ℕ} 0 1 = cc in absurd (omega arith)
 both-sound TooLong NotBeat e = let z : _≡_ {A = ℕ} 0 1 = cc in absurd (omega arith)
-both-sound NotBeat Sound e = let z : _≡_ {A = ℕ} 0 1 = cc in absurd (omega arith)
+both-sound NotBeat Fine e = let z : _≡_ {A = ℕ} 0 1 = cc in absurd (omega arith)
 both-sound NotBeat Uneven e = let z : _≡_ {A = ℕ} 0 1 = cc in absurd (omega arith)
 both-sound NotBeat TooLong e = let z : _≡_ {A = ℕ} 0 1 = cc in absurd (omega arith)
 both-sound NotBeat NotBeat e = let z : _≡_ {A = ℕ} 0 1 = cc in absurd (omega arith)
 
 -- the lists of a sound tempo map are parallel
 module _ (nums : List ℤ) (dens tempos : List ℕ) where
-  pub parallel : mapTest nums dens tempos ≡ Sound → Parallel nums dens tempos
-  parallel e = let known = tempo.sound nums dens tempos e in record { even-dens = known .even-dens; even-tempos = known .even-tempos }
+  pub parallel : mapTest nums dens tempos ≡ Fine → Parallel nums dens tempos
+  parallel e = let known = tempo.walkable nums dens tempos e in record { even-dens = known .even-dens; even-tempos = known .even-tempos }
 
   module _ (t : Transport) where
     pub tempo-parallel : {test : Test} → test ≡ testOf t (mapTest nums dens tempos) → test ≡ Passed → Parallel nums dens tempos

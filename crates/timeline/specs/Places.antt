@@ -8,7 +8,7 @@ use lib.Ieee.{Float, binary64, ofBits, ofInt, toSigned, toUnsigned, add, sub, mu
 use lib.ListN.{length}
 use Rattle.rounding.specs.Floats.{roundAway, floorOf, maximum, clamp, float0, float1}
 use Rattle.beats.specs.declared.Beat.{Beat}
-use Rattle.beats.specs.Beats.{newBeat, wholeBeat}
+use Rattle.beats.specs.Beats.{newBeat, zeroBeat}
 use Rattle.beats.specs.Sums.{belowBeat}
 use Rattle.beats.specs.Frames.{float60, beatFloat, secondsAt, framesAt}
 use Rattle.meter.specs.declared.MeterPoint.{MeterPoint}
@@ -80,7 +80,7 @@ currentBar t map beat = countAt map (t .«beats_per_bar») (t .pickup) beat - 1
 
 -- the part of a bar that has gone by at a beat: 0 where the bar lasts no time
 unfoldable pub within : Beat → Beat → Beat → Float
-within beat start len = cond (belowBeat (wholeBeat (pos 0)) len) (div binary64 (sub binary64 (floatOf beat) (floatOf start)) (floatOf len)) float0
+within beat start len = cond (belowBeat zeroBeat len) (div binary64 (sub binary64 (floatOf beat) (floatOf start)) (floatOf len)) float0
 
 -- the bar that a beat lies in, and the part of it that has gone by, kept from 0 to 1
 unfoldable pub barsAt : Transport → List MeterPoint → Beat → Float

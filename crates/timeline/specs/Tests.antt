@@ -7,8 +7,8 @@ use lib.IntN.{ℤ}
 use lib.ListN.{length}
 use Rattle.numbers.specs.Answers.{Answer}
 use Rattle.tempo.specs.declared.MapTest.{MapTest}
-use Rattle.tempo.specs.declared.MapTest.the-variants.{Sound, Uneven, TooLong, NotBeat}
-use Rattle.tempo.specs.Answers.{mapTest, ifSound}
+use Rattle.tempo.specs.declared.MapTest.the-variants.{Fine, Uneven, TooLong, NotBeat}
+use Rattle.tempo.specs.Answers.{mapTest, ifWalkable}
 use Rattle.transport.specs.declared.Report.{Report}
 use Rattle.transport.specs.declared.Report.the-variants.{Unsound as RUnsound, Uneven as RUneven, TooLong as RTooLong, NotBeat as RNotBeat}
 use Rattle.transport.specs.declared.Transport.{Transport}
@@ -21,19 +21,19 @@ use Rattle.timeline.specs.declared.tests.Test.the-variants.{Sound as Pas
 
 -- the flat words of a meter map: 3 where they are not three a point, 4 where there are over 65,536 points
 abbrev pub wordsTest : List ℕ → MapTest
-wordsTest words = cond (eqb (length words % 3) 0) (cond (leb (length words) (65536 * 3)) Sound TooLong) Uneven
+wordsTest words = cond (eqb (length words % 3) 0) (cond (leb (length words) (65536 * 3)) Fine TooLong) Uneven
 
 -- of two findings the one that comes first: 3, then 4, then 1
 abbrev pub worse : MapTest → MapTest → MapTest
-worse Sound b = b
+worse Fine b = b
 worse Uneven b = Uneven
 worse TooLong Uneven = Uneven
-worse TooLong Sound = TooLong
+worse TooLong Fine = TooLong
 worse TooLong TooLong = TooLong
 worse TooLong NotBeat = TooLong
 worse NotBeat Uneven = Uneven
 worse NotBeat TooLong = TooLong
-worse NotBeat Sound = NotBeat
+worse NotBeat Fine = NotBeat
 worse NotBeat NotBeat = NotBeat
 
 -- both maps
@@ -44,12 +44,12 @@ mapsTest words nums dens tempos = worse (wordsTest words) (mapTest nums dens tem
 
 -- 12, then what was found
 unfoldable pub ifTested : {A : Type 0} → Transport → MapTest → Answer A → Answer A
-ifTested t finding answer = ifTransport t (ifSound finding answer)
+ifTested t finding answer = ifTransport t (ifWalkable finding answer)
 
 -- ---- as the code has it
 
 abbrev pub tested : MapTest → Test
-tested Sound = Passed
+tested Fine = Passed
 tested Uneven = Refused NotEven
 tested TooLong = Refused Long
 tested NotBeat = Refused NoBeat

@@ -29,10 +29,10 @@ pub fn words_test(words: &[u32]) -> MapTest
     if words.len() % 3 != 0 {
         return MapTest::Uneven;
     }
-    if words.len() > 196_608 {
+    if words.len() > meter::MOST_WORDS {
         return MapTest::TooLong;
     }
-    MapTest::Sound
+    MapTest::Fine
 }
 
 // Of two findings the one whose number comes first.
@@ -41,16 +41,16 @@ pub fn worse(a: MapTest, b: MapTest) -> MapTest
 {
     match a {
         MapTest::Uneven => MapTest::Uneven,
-        MapTest::Sound => b,
+        MapTest::Fine => b,
         MapTest::TooLong => match b {
             MapTest::Uneven => MapTest::Uneven,
-            MapTest::Sound => MapTest::TooLong,
+            MapTest::Fine => MapTest::TooLong,
             MapTest::TooLong => MapTest::TooLong,
             MapTest::NotBeat => MapTest::TooLong,
         },
         MapTest::NotBeat => match b {
             MapTest::Uneven => MapTest::Uneven,
-            MapTest::Sound => MapTest::NotBeat,
+            MapTest::Fine => MapTest::NotBeat,
             MapTest::TooLong => MapTest::TooLong,
             MapTest::NotBeat => MapTest::NotBeat,
         },
@@ -62,7 +62,7 @@ pub fn found(finding: MapTest) -> Test
     ensures { λ r. ⌜ r ≡ tested finding ⌝ }
 {
     match finding {
-        MapTest::Sound => Test::Sound,
+        MapTest::Fine => Test::Sound,
         MapTest::Uneven => Test::Refused(Refusal::Uneven),
         MapTest::TooLong => Test::Refused(Refusal::TooLong),
         MapTest::NotBeat => Test::Refused(Refusal::NotBeat),

@@ -52,7 +52,7 @@ use denote.Triple.Table.{entered, cited}
 use denote.Triple.Walked.{says, Stays, stay-none-slice, stay-slice, walkOf, goes-none-slice, goes-slice, Walks, ends-at, walked as walks-from, walk-meets}
 use denote.Exit.{yes}
 use Rattle.numbers.proofs.Laws.{by-order}
-use Rattle.problems.specs.Answers.{meterAnswer, meterAfter}
+use Rattle.problems.specs.Answers.{meterProblemsAnswer, meterAfter}
 use Rattle.problems.specs.Readings.{readProblems}
 use Rattle.problems.specs.Passes.{Walks as MayWalk, put, here, begun, stepped, finished}
 use Rattle.meter.specs.declared.MeterPoint.{MeterPoint}
@@ -205,7 +205,7 @@ module _ {M : Type 1} (𝓤 : URA M) (H : Heap 𝓤) (A : Atoms 𝓤) (W : Given
   abbrev Post : Val → SProp 𝓤
   Post = walkOf 𝓤 H A wp.ended stayed (wp.clauses 𝓤 H A at-mem run) .post (((κ, (κ′, tt)), (q, (q′, tt)), bounds, arg, at), tt)
 
-  exits : (r : ProblemsAnswer) (us : List ℕ) → Is P.the-row r (machP r ∷ []) → length us ≡ length out → (readProblems r ≡ meterAnswer ys out) × (us ≡ meterAfter ys out)
+  exits : (r : ProblemsAnswer) (us : List ℕ) → Is P.the-row r (machP r ∷ []) → length us ≡ length out → (readProblems r ≡ meterProblemsAnswer ys out) × (us ≡ meterAfter ys out)
       → ent 𝓤 (⋆ 𝓤 H A (‵ (flft κ q) ∷ ‵ (ShrSlice (named 0) κ R .own x (at .0)) ∷ ‵ (MutSlice (named 1) κ′ u32 .own (x′ γ′ us) (v′ out ∷ [])) ∷ ‵ (flft κ′ q′) ∷ [])) (Post (machP r))
   exits r us is l e =
       qed W (‵ (flft κ q) ∷ ‵ (ShrSlice (named 0) κ R .own x (at .0)) ∷ ‵ (MutSlice (named 1) κ′ u32 .own (x′ γ′ us) (v′ out ∷ [])) ∷ ‵ (flft κ′ q′) ∷ []) ∵
@@ -330,7 +330,7 @@ module _ {M : Type 1} (𝓤 : URA M) (H : Heap 𝓤) (A : Atoms 𝓤) (W : Given
         move ! (2 ∷ 1 ∷ []) $ fjoin ! $ move ! (2 ∷ 0 ∷ []) $ fjoin ! $ keep ! (1 ∷ 0 ∷ 2 ∷ 3 ∷ []) $
         by ! (exits r (s .zs) (subst (Is P.the-row r) (EL.tells P.the-type P′.the-laws r (w ∷ []) is) is) (s .stage .long) (said ∙ told .0, told .1))))))
       where
-        told : (finished (s .st) ≡ meterAnswer ys out) × (s .zs ≡ meterAfter ys out)
+        told : (finished (s .st) ≡ meterProblemsAnswer ys out) × (s .zs ≡ meterAfter ys out)
         told = stage-ends ys out (s .st) (s .zs) (s .stage) over
 
     each-turn : (s : Going ys out) → Sq W (At s) (runs C Λ En mir.turn-1 (anyQ (Turned s)))

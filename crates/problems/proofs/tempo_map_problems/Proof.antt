@@ -1,7 +1,7 @@
--- The test's refusals change nothing; else the answer is that of the list of problems, of a map that the test found sound.
+-- The test's refusals change nothing; else the answer is that of the list of problems, of a map that can be walked.
 use mathlib.Core.Path.{sym, _∙_}
 use borrow.Author.Needs.{needs}
-use Rattle.tempo.proofs.Laws.{finding, sound}
+use Rattle.tempo.proofs.Laws.{finding, walkable}
 use Rattle.problems.proofs.tempo_map_problems.Statement.{statement}
 use Rattle.problems.proofs.tempo_map_problems.Tie as tie
 
@@ -23,7 +23,7 @@ enum-told-4 c = search needs
 list-requires : tie.Need-list-requires
 list-requires c κs =
     let a = c .before .before .before .before .before .before .before .args in
-    sound (a .nums .now) (a .dens .now) (a .tempos .now) (sym (finding _ _ _ _ (c .before .before .before .test .ensures)) ∙ c .before .enum-told4 .given .1)
+    walkable (a .nums .now) (a .dens .now) (a .tempos .now) (sym (finding _ _ _ _ (c .before .before .before .test .ensures)) ∙ c .before .enum-told4 .given .1)
 
 returns : tie.Need-returns
 returns c = let e = sym (finding _ _ _ _ (c .before .before .test .ensures)) ∙ c .enum-told .given .1 in (rw e, rw e)

@@ -1,9 +1,9 @@
 -- Each case, as the definition reads it.
 use mathlib.Core.Path.{sym, ap}
 use borrow.Author.Needs.{needs}
+use Rattle.numbers.specs.Answers.{isAccepted}
 use Rattle.beats.specs.declared.BeatAnswer.{BeatAnswer}
 use Rattle.beats.specs.Readings.{readBeat}
-use Rattle.meter.specs.Fits.{isAccepted}
 use Rattle.fits.proofs.walk.done.Statement.{statement}
 use Rattle.fits.proofs.walk.done.Tie as tie
 

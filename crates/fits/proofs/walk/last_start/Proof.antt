@@ -8,8 +8,9 @@ use Rattle.beats.specs.Readings.{readBeat}
 use Rattle.meter.specs.declared.MeterPoint.{MeterPoint}
 use Rattle.meter.specs.Meters.{pointsOf}
 use Rattle.meter.specs.Starts.{then}
+use Rattle.meter.specs.Fits.{lastBar}
 use Rattle.meter.proofs.Laws.{left}
-use Rattle.fits.specs.Decision.{lastBar, reach, walked}
+use Rattle.fits.specs.Decision.{reach, walked}
 use Rattle.fits.proofs.Walking.{walked-end, walked-again}
 use Rattle.fits.proofs.walk.last_start.Statement.{statement}
 use Rattle.fits.proofs.walk.last_start.Tie as tie

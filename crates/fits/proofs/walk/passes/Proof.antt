@@ -1,9 +1,9 @@
 -- The parts' contracts, one inside the other.
 use mathlib.Core.Path.{ap, _∙_}
 use borrow.Author.Needs.{needs}
+use Rattle.numbers.specs.Answers.{isAccepted}
 use Rattle.beats.specs.Sums.{addBeats}
 use Rattle.meter.specs.Meters.{fallback}
-use Rattle.meter.specs.Fits.{isAccepted}
 use Rattle.fits.specs.Decision.{walked, walkFits}
 use Rattle.fits.proofs.walk.passes.Statement.{statement}
 use Rattle.fits.proofs.walk.passes.Tie as tie

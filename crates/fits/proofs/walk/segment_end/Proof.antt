@@ -2,9 +2,9 @@
 use mathlib.Core.Path.{_≡_, sym, ap, _∙_}
 use Prim.Native.Nat.{_-_}
 use borrow.Author.Needs.{needs}
+use Rattle.numbers.specs.Answers.{isAccepted}
 use Rattle.beats.specs.Readings.{readBeat}
 use Rattle.meter.specs.Starts.{checkedBars}
-use Rattle.meter.specs.Fits.{isAccepted}
 use Rattle.fits.proofs.Walking.{segment-on, segment-off}
 use Rattle.fits.proofs.walk.segment_end.Statement.{statement}
 use Rattle.fits.proofs.walk.segment_end.Tie as tie

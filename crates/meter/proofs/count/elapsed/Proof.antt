@@ -3,9 +3,9 @@ use mathlib.Core.Path.{_≡_, sym, ap, _∙_}
 use borrow.Author.Tests.{not-true, not-false}
 use borrow.Author.Needs.{needs}
 use Rattle.beats.specs.declared.Beat.{Beat}
+use Rattle.beats.specs.Beats.{zeroBeat}
 use Rattle.beats.specs.Sums.{belowBeat}
 use Rattle.meter.specs.Meters.{pointsOf}
-use Rattle.meter.specs.Starts.{zeroBeat}
 use Rattle.meter.proofs.Counting.{count-zero, count-within}
 use Rattle.meter.proofs.count.elapsed.Statement.{statement}
 use Rattle.meter.proofs.count.elapsed.Tie as tie

@@ -2,18 +2,17 @@
 use mathlib.Core.Bool.{not}
 use mathlib.Core.List.{List, _++_}
 use borrow.Author.Needs.{needs}
-use lib.Dec.{ltb}
-use Rattle.problems.specs.Problems.{Problem, problemIf, tempoBits, isZero}
+use Rattle.problems.specs.Problems.{Problem, tempoBits, manyTempos, laterBeat}
 use Rattle.problems.specs.Passes.{listedAt, tempoFirst}
 use Rattle.problems.proofs.Passing.{ready-first, ready-then, passed-then}
 use Rattle.problems.proofs.changes.first.Statement.{statement}
 use Rattle.problems.proofs.changes.first.Tie as tie
 
 abbrev many : tie.Start → List Problem
-many s = problemIf (ltb 1024 (s .args .n)) 6 0 (s .args .n)
+many s = manyTempos (s .args .n)
 
 abbrev late : tie.Start → List Problem
-late s = problemIf (not (isZero (s .args .at))) 7 0 0
+late s = laterBeat (s .args .at)
 
 abbrev bits : tie.Start → List Problem
 bits s = tempoBits 0 (listedAt (s .args .at) (s .args .bits))

@@ -3,17 +3,17 @@ use native.Mathlib.Omega.{arith}
 use mathlib.Core.Path.{_≡_, refl}
 use Prim.Native.Nat.{_+_, _≤_, _-_}
 use lib.ListN.{length, drop}
-use Rattle.tempo.specs.Answers.{SoundMap}
+use Rattle.tempo.specs.Answers.{Walkable}
 use Rattle.problems.specs.Problems.{listed, tempoProblems}
 use Rattle.problems.specs.Passes.{Ready, beatAt, tempoAt, tempoFrom}
-use Rattle.problems.proofs.Listing.{pointAt, tempo-all, tempo-next, tempo-end}
+use Rattle.problems.proofs.Listing.{listedPoint, tempo-all, tempo-next, tempo-end}
 use Rattle.problems.proofs.Passing.{Passing, begin, ready-next, on, done}
 use borrow.Author.Needs.{needs}
 use Rattle.problems.proofs.changes.pass.Statement.{statement}
 use Rattle.problems.proofs.changes.pass.Tie as tie
 
 abbrev Inv-loop : tie.InvT-loop
-Inv-loop nums dens tempos out₀ writing n before₀ count₀ i₀ out before count i = SoundMap nums dens tempos × (n ≡ length nums) × (i ≤ n) × Ready writing out₀ 0 (tempoProblems (listed nums dens tempos)) × Passing writing out₀ out count (tempoFrom n i before (drop i (listed nums dens tempos))) (tempoProblems (listed nums dens tempos))
+Inv-loop nums dens tempos out₀ writing n before₀ count₀ i₀ out before count i = Walkable nums dens tempos × (n ≡ length nums) × (i ≤ n) × Ready writing out₀ 0 (tempoProblems (listed nums dens tempos)) × Passing writing out₀ out count (tempoFrom n i before (drop i (listed nums dens tempos))) (tempoProblems (listed nums dens tempos))
 
 abbrev μ-loop : tie.MeasureT-loop
 μ-loop nums dens tempos out₀ writing n before₀ count₀ i₀ out before count i = n - i
@@ -48,7 +48,7 @@ point-requires c κs =
     let nums = a .nums .now in
     let dens = a .dens .now in
     let tempos = a .tempos .now in
-    let now = tempoAt (length nums) (l .i) (l .before) (pointAt nums dens tempos (l .i)) in
+    let now = tempoAt (length nums) (l .i) (l .before) (listedPoint nums dens tempos (l .i)) in
     let rest = tempoFrom (length nums) (l .i + 1) (beatAt nums dens (l .i)) (drop (l .i + 1) (listed nums dens tempos)) in
     rw (c .before .before .beat-at .ensures) (ready-next now rest (tempo-next nums dens tempos (l .inv .0) (length nums) (l .i) (l .before) (c .before .before .before .loop-test .taken)) (l .inv .4) (l .inv .3))
 
@@ -65,7 +65,7 @@ loop-again c =
     let nums = a .nums .now in
     let dens = a .dens .now in
     let tempos = a .tempos .now in
-    let now = tempoAt (length nums) (l .i) (l .before) (pointAt nums dens tempos (l .i)) in
+    let now = tempoAt (length nums) (l .i) (l .before) (listedPoint nums dens tempos (l .i)) in
     let rest = tempoFrom (length nums) (l .i + 1) (beatAt nums dens (l .i)) (drop (l .i + 1) (listed nums dens tempos)) in (
       l .inv .0,
       refl,

@@ -1,13 +1,13 @@
 -- The records of the map are passed, and then those of the point.
 use borrow.Author.Needs.{needs}
 use Rattle.problems.specs.Problems.{meterPoint}
-use Rattle.problems.specs.Passes.{pointOf, meterHead, meterAt}
+use Rattle.problems.specs.Passes.{pointOf, meterHead, recordsAt}
 use Rattle.problems.proofs.Passing.{ready-first, ready-then, passed-then}
 use Rattle.problems.proofs.walk.records_at.Statement.{statement}
 use Rattle.problems.proofs.walk.records_at.Tie as tie
 
 head-requires : tie.Need-head-requires
-unfolding meterAt
+unfolding recordsAt
 head-requires c κs =
     let s = c .before .before in
     let a = s .args in
@@ -16,7 +16,7 @@ head-requires c κs =
     ready-first x y (s .pre)
 
 own-requires : tie.Need-own-requires
-unfolding meterAt
+unfolding recordsAt
 own-requires c κs =
     let s = c .before .before .before .before .before .before in
     let a = s .args in
@@ -28,7 +28,7 @@ same-length : tie.Need-same-length
 same-length c = search needs
 
 returns : tie.Need-returns
-unfolding meterAt
+unfolding recordsAt
 returns c =
     let s = c .before .before .before .before .before .before .before .before .before in
     let a = s .args in
