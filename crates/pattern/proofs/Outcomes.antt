@@ -9,7 +9,7 @@ use lib.ListN.{length, drop}
 use borrow.Author.Tests.{eq-eqb, ne-eqb, le-leb, lt-leb}
 use Rattle.numbers.specs.Answers.{Answer, accepted, refused}
 use Rattle.notes.specs.declared.Note.{Note}
-use Rattle.notes.specs.Notes.{wordsOf, oneNumber, twoNumber}
+use Rattle.notes.specs.Notes.{wordsOf, refusalOfOne, refusalOfTwo}
 use Rattle.notes.proofs.Laws.{one-refuses, two-refuses}
 use Rattle.pattern.specs.declared.PatternAnswer.the-variants as P
 use Rattle.pattern.specs.declared.PatternAnswer.{PatternAnswer}
@@ -38,11 +38,11 @@ module _ (want : ℕ) (gives : Answer Phrase) (number : ℕ) (e : number ≡ wan
 
 -- a number that refuses is 3 or 4
 module _ (number : ℕ) (f : number ≡ 0 → ⊥) where
-  pub one-number-is : (words : ℕ) → number ≡ oneNumber words → (number ≡ 3) ⊎ (number ≡ 4)
-  one-number-is words e = subst (λ (n : ℕ). (n ≡ 3) ⊎ (n ≡ 4)) (sym e) (one-refuses words (λ z. f (e ∙ z)))
+  pub refusal-of-one-is : (words : ℕ) → number ≡ refusalOfOne words → (number ≡ 3) ⊎ (number ≡ 4)
+  refusal-of-one-is words e = subst (λ (n : ℕ). (n ≡ 3) ⊎ (n ≡ 4)) (sym e) (one-refuses words (λ z. f (e ∙ z)))
 
-  pub two-number-is : (a b : ℕ) → number ≡ twoNumber a b → (number ≡ 3) ⊎ (number ≡ 4)
-  two-number-is a b e = subst (λ (n : ℕ). (n ≡ 3) ⊎ (n ≡ 4)) (sym e) (two-refuses a b (λ z. f (e ∙ z)))
+  pub refusal-of-two-is : (a b : ℕ) → number ≡ refusalOfTwo a b → (number ≡ 3) ⊎ (number ≡ 4)
+  refusal-of-two-is a b e = subst (λ (n : ℕ). (n ≡ 3) ⊎ (n ≡ 4)) (sym e) (two-refuses a b (λ z. f (e ∙ z)))
 
 -- ---- accepted, but for the room
 

@@ -42,7 +42,7 @@ pub fn repeat(
 ) -> PatternAnswer
     ensures { λ r. ⌜ Outcome (repeatOf p (now (words .entry)) «steps_per_bar» times) r (now (out .entry)) (now (out .exit)) ⌝ }
 {
-    let number = notes::one_number(words.len());
+    let number = notes::refusal_of_one(words.len());
     if number != 0 {
         return answers::by_number(number);
     }
@@ -66,7 +66,7 @@ pub fn concat(
 ) -> PatternAnswer
     ensures { λ r. ⌜ Outcome (concatOf a (now (words .entry)) b (now (more .entry)) «steps_per_bar») r (now (out .entry)) (now (out .exit)) ⌝ }
 {
-    let number = notes::two_number(words.len(), more.len());
+    let number = notes::refusal_of_two(words.len(), more.len());
     if number != 0 {
         return answers::by_number(number);
     }
@@ -83,7 +83,7 @@ pub fn concat(
 pub fn layer(a: Pattern, words: &[u32], b: Pattern, more: &[u32], out: &mut [u32]) -> PatternAnswer
     ensures { λ r. ⌜ Outcome (layerOf a (now (words .entry)) b (now (more .entry))) r (now (out .entry)) (now (out .exit)) ⌝ }
 {
-    let number = notes::two_number(words.len(), more.len());
+    let number = notes::refusal_of_two(words.len(), more.len());
     if number != 0 {
         return answers::by_number(number);
     }
@@ -109,7 +109,7 @@ pub fn slice(
 ) -> PatternAnswer
     ensures { λ r. ⌜ Outcome (sliceOf p (now (words .entry)) start len «steps_per_bar») r (now (out .entry)) (now (out .exit)) ⌝ }
 {
-    let number = notes::one_number(words.len());
+    let number = notes::refusal_of_one(words.len());
     if number != 0 {
         return answers::by_number(number);
     }
@@ -125,7 +125,7 @@ pub fn slice(
 pub fn stretch(p: Pattern, words: &[u32], num: u32, den: u32, out: &mut [u32]) -> PatternAnswer
     ensures { λ r. ⌜ Outcome (stretchOf p (now (words .entry)) num den) r (now (out .entry)) (now (out .exit)) ⌝ }
 {
-    let number = notes::one_number(words.len());
+    let number = notes::refusal_of_one(words.len());
     if number != 0 {
         return answers::by_number(number);
     }

@@ -13,7 +13,7 @@ pub fn each(p: Pattern, words: &[u32], how: Change, out: &mut [u32]) -> PatternA
     requires { ⌜ Ready how ⌝ }
     ensures { λ r. ⌜ Outcome (eachOf how p (now (words .entry))) r (now (out .entry)) (now (out .exit)) ⌝ }
 {
-    let number = notes::one_number(words.len());
+    let number = notes::refusal_of_one(words.len());
     if number != 0 {
         return answers::by_number(number);
     }
@@ -29,7 +29,7 @@ pub fn each_sorted(p: Pattern, words: &[u32], how: Change, out: &mut [u32]) -> P
     requires { ⌜ Ready how ⌝ }
     ensures { λ r. ⌜ Outcome (eachSortedOf how p (now (words .entry))) r (now (out .entry)) (now (out .exit)) ⌝ }
 {
-    let number = notes::one_number(words.len());
+    let number = notes::refusal_of_one(words.len());
     if number != 0 {
         return answers::by_number(number);
     }
