@@ -6,13 +6,13 @@ use Prim.Native.Nat.{ℕ, _%_, _≤_}
 use native.Mathlib.Omega.{arith}
 use lib.Dec.{leb, eqb}
 use borrow.Author.Tests.{leb-true, eqb-true}
-use Rattle.notes.specs.Notes.{oneNumber, twoNumber}
+use Rattle.notes.specs.Notes.{refusalOfOne, refusalOfTwo}
 
 pub record One (words : ℕ) : Type 0 where
   pub even : words % 4 ≡ 0
   pub short : words ≤ 16384
 
-pub one : (words : ℕ) → oneNumber words ≡ 0 → One words
+pub one : (words : ℕ) → refusalOfOne words ≡ 0 → One words
 one words = go (eqb (words % 4) 0) (leb words 16384) refl refl
   where
     go : (p r : Bool) → eqb (words % 4) 0 ≡ p → leb words 16384 ≡ r → _≡_ {A = ℕ} (cond p (cond r 0 4) 3) 0 → One words
@@ -26,14 +26,14 @@ refuses true true f = absurd (f refl)
 refuses true false f = inr refl
 refuses false r f = inl refl
 
-pub one-refuses : (words : ℕ) → (oneNumber words ≡ 0 → ⊥) → (oneNumber words ≡ 3) ⊎ (oneNumber words ≡ 4)
+pub one-refuses : (words : ℕ) → (refusalOfOne words ≡ 0 → ⊥) → (refusalOfOne words ≡ 3) ⊎ (refusalOfOne words ≡ 4)
 one-refuses words = refuses (eqb (words % 4) 0) (leb words 16384)
 
 pub record Two (a b : ℕ) : Type 0 where
   pub first : One a
   pub second : One b
 
-pub two : (a b : ℕ) → twoNumber a b ≡ 0 → Two a b
+pub two : (a b : ℕ) → refusalOfTwo a b ≡ 0 → Two a b
 two a b = go (eqb (a % 4) 0) (eqb (b % 4) 0) (leb a 16384) (leb b 16384) refl refl refl refl
   where
     go : (p q r s : Bool) → eqb (a % 4) 0 ≡ p → eqb (b % 4) 0 ≡ q → leb a 16384 ≡ r → leb b 16384 ≡ s
@@ -47,5 +47,5 @@ two a b = go (eqb (a % 4) 0) (eqb (b % 4) 0) (leb a 16384) (leb b 16384) refl re
     go true false r s ep eq er es e = absurd (omega arith)
     go false q r s ep eq er es e = absurd (omega arith)
 
-pub two-refuses : (a b : ℕ) → (twoNumber a b ≡ 0 → ⊥) → (twoNumber a b ≡ 3) ⊎ (twoNumber a b ≡ 4)
+pub two-refuses : (a b : ℕ) → (refusalOfTwo a b ≡ 0 → ⊥) → (refusalOfTwo a b ≡ 3) ⊎ (refusalOfTwo a b ≡ 4)
 two-refuses a b = refuses (eqb (a % 4) 0 && eqb (b % 4) 0) (leb a 16384 && leb b 16384)

@@ -29,9 +29,9 @@ placed step n = record { step = step; len = n .len; gain = n .gain; tag = n .tag
 -- ---- the number that refuses note words by their count, or 0
 
 -- 3 where they are not four a note, 4 where they are over 4,096 notes
-abbrev pub oneNumber : ℕ → ℕ
-oneNumber words = cond (eqb (words % 4) 0) (cond (leb words 16384) 0 4) 3
+abbrev pub refusalOfOne : ℕ → ℕ
+refusalOfOne words = cond (eqb (words % 4) 0) (cond (leb words 16384) 0 4) 3
 
 -- of two lists: 3 of either, then 4 of either
-abbrev pub twoNumber : ℕ → ℕ → ℕ
-twoNumber a b = cond (eqb (a % 4) 0 && eqb (b % 4) 0) (cond (leb a 16384 && leb b 16384) 0 4) 3
+abbrev pub refusalOfTwo : ℕ → ℕ → ℕ
+refusalOfTwo a b = cond (eqb (a % 4) 0 && eqb (b % 4) 0) (cond (leb a 16384 && leb b 16384) 0 4) 3

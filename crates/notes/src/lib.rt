@@ -1,7 +1,7 @@
 // Notes as flat words, four a note: step, len, gain bits and tag. The work on words whose numbers
 // are tested is in `words` and `sorting`.
 ghost use mathlib.Core.Path.{_≡_};
-ghost use Rattle.notes.specs.Notes.{placed, oneNumber, twoNumber};
+ghost use Rattle.notes.specs.Notes.{placed, refusalOfOne, refusalOfTwo};
 
 pub mod sorting;
 pub mod words;
@@ -29,8 +29,8 @@ impl Note {
 
 // The number that refuses so many note words, or 0: 3 where they are not four a note, 4 where they
 // are over 4,096 notes.
-pub fn one_number(words: usize) -> u32
-    ensures { λ r. ⌜ r ≡ oneNumber words ⌝ }
+pub fn refusal_of_one(words: usize) -> u32
+    ensures { λ r. ⌜ r ≡ refusalOfOne words ⌝ }
 {
     if words % 4 != 0 {
         return 3;
@@ -42,8 +42,8 @@ pub fn one_number(words: usize) -> u32
 }
 
 // The number that refuses two lists of so many note words, or 0: 3 of either goes before 4.
-pub fn two_number(a: usize, b: usize) -> u32
-    ensures { λ r. ⌜ r ≡ twoNumber a b ⌝ }
+pub fn refusal_of_two(a: usize, b: usize) -> u32
+    ensures { λ r. ⌜ r ≡ refusalOfTwo a b ⌝ }
 {
     if a % 4 != 0 {
         return 3;

@@ -7,7 +7,7 @@ use lib.Dec.{eqb}
 use lib.ListN.{length}
 use borrow.Author.Tests.{eq-eqb, ne-eqb}
 use Rattle.numbers.specs.Answers.{Answer, accepted, refused}
-use Rattle.notes.specs.Notes.{notesOf, oneNumber}
+use Rattle.notes.specs.Notes.{notesOf, refusalOfOne}
 use Rattle.rhythm.specs.Cuts.{gridOf, stretched}
 use Rattle.rhythm.specs.Values.{stretchedBy}
 use Rattle.pattern.specs.declared.Pattern.{Pattern}
@@ -15,12 +15,12 @@ use Rattle.pattern.specs.Calls.{onGrid, stretchOf}
 use Rattle.pattern.specs.Phrases.{Phrase, phrase}
 use Rattle.pattern.proofs.Outcomes.{passed}
 
-module _ (p : Pattern) (words : List ℕ) (num den number : ℕ) (e : number ≡ oneNumber (length words)) (z : number ≡ 0) where
+module _ (p : Pattern) (words : List ℕ) (num den number : ℕ) (e : number ≡ refusalOfOne (length words)) (z : number ≡ 0) where
   abbrev made : Answer Phrase
   made = accepted (phrase (map (stretched num den) (notesOf words)) (stretchedBy num den (p .bars)))
 
   ratio : (b : Bool) → eqb num 0 || eqb den 0 ≡ b → stretchOf p words num den ≡ elim b [ true ↦ refused 6 [] | false ↦ onGrid (gridOf num den (p .bars) (notesOf words)) made ]
-  ratio b q = passed (oneNumber (length words)) _ number e z ∙ ap (λ (t : Bool). elim t [ true ↦ refused 6 [] | false ↦ onGrid (gridOf num den (p .bars) (notesOf words)) made ]) q
+  ratio b q = passed (refusalOfOne (length words)) _ number e z ∙ ap (λ (t : Bool). elim t [ true ↦ refused 6 [] | false ↦ onGrid (gridOf num den (p .bars) (notesOf words)) made ]) q
 
   pub zero-num : num ≡ 0 → stretchOf p words num den ≡ refused 6 []
   zero-num h = ratio true (simp (eq-eqb _ _ h))

@@ -9,8 +9,7 @@ use Rattle.numbers.proofs.Laws.{Apart, apart-by, one-reading}
 use Rattle.pattern.specs.declared.PatternAnswer.the-variants as P
 use Rattle.pattern.specs.declared.PatternAnswer.{PatternAnswer}
 use Rattle.pattern.specs.Phrases.{Phrase, Wrote, answered}
-use Rattle.pattern.specs.Readings.{readPattern}
-use Rattle.pattern.proofs.Outcomes.{Told}
+use Rattle.pattern.specs.Readings.{readPattern, Outcome}
 
 -- the facts that go with 7
 abbrev off : List ℕ → PatternAnswer
@@ -35,5 +34,5 @@ patterns-apart = apart-by readPattern back same
     same P.NoRoom = refl
 
 -- two answers and outputs that meet the contract of one call are the same
-pub one-outcome : (gives : Answer Phrase) (r s : PatternAnswer) (out after other : List ℕ) → Told gives r out after → Told gives s out other → (r ≡ s) × (after ≡ other)
-one-outcome gives r s out after other p q = (one-reading readPattern patterns-apart r s (answered gives out) (p .0) (q .0), p .1 ∙ sym (q .1))
+pub one-outcome : (gives : Answer Phrase) (r s : PatternAnswer) (out after other : List ℕ) → Outcome gives r out after → Outcome gives s out other → (r ≡ s) × (after ≡ other)
+one-outcome gives r s out after other p q = (one-reading readPattern patterns-apart r s (answered gives out) (p .answers) (q .answers), p .leaves ∙ sym (q .leaves))

@@ -6,7 +6,7 @@ use lib.Dec.{leb, eqb}
 use lib.ListN.{length, drop}
 use Rattle.numbers.specs.Answers.{Answer, accepted, refused, given}
 use Rattle.notes.specs.declared.Note.{Note}
-use Rattle.notes.specs.Notes.{wordsOf, oneNumber, twoNumber}
+use Rattle.notes.specs.Notes.{wordsOf, refusalOfOne, refusalOfTwo}
 use Rattle.pattern.specs.declared.Pattern.{Pattern}
 
 -- notes, and the pattern that they make
@@ -48,8 +48,8 @@ unless number answer = cond (eqb number 0) answer (refused number [])
 
 -- 3 where the words are not four a note, 4 where there are over 4,096 notes
 abbrev pub ifNotes : List ℕ → Answer Phrase → Answer Phrase
-ifNotes words answer = unless (oneNumber (length words)) answer
+ifNotes words answer = unless (refusalOfOne (length words)) answer
 
 -- of two lists 3 of either goes before 4 of either
 abbrev pub ifBoth : List ℕ → List ℕ → Answer Phrase → Answer Phrase
-ifBoth a b answer = unless (twoNumber (length a) (length b)) answer
+ifBoth a b answer = unless (refusalOfTwo (length a) (length b)) answer

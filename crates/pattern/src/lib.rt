@@ -9,9 +9,7 @@ use rhythm::joining;
 use rhythm::making;
 use rhythm::making::Spread;
 use rhythm::steps;
-ghost use mathlib.Core.Path.{_≡_};
-ghost use Rattle.pattern.specs.Readings.{readPattern};
-ghost use Rattle.pattern.specs.Phrases.{answered, written};
+ghost use Rattle.pattern.specs.Readings.{Outcome};
 ghost use Rattle.pattern.specs.Calls.{repeatOf, concatOf, layerOf, sliceOf, stretchOf, rotateOf, reverseOf, quantizeOf, velOf, gateOf, euclideanOf, tupletOf};
 
 mod answers;
@@ -42,9 +40,9 @@ pub fn repeat(
     times: u32,
     out: &mut [u32],
 ) -> PatternAnswer
-    ensures { λ r. ⌜ (readPattern r ≡ answered (repeatOf p (now (words .entry)) «steps_per_bar» times) (now (out .entry))) × (now (out .exit) ≡ written (repeatOf p (now (words .entry)) «steps_per_bar» times) (now (out .entry))) ⌝ }
+    ensures { λ r. ⌜ Outcome (repeatOf p (now (words .entry)) «steps_per_bar» times) r (now (out .entry)) (now (out .exit)) ⌝ }
 {
-    let number = notes::one_number(words.len());
+    let number = notes::refusal_of_one(words.len());
     if number != 0 {
         return answers::by_number(number);
     }
@@ -66,9 +64,9 @@ pub fn concat(
     steps_per_bar: u32,
     out: &mut [u32],
 ) -> PatternAnswer
-    ensures { λ r. ⌜ (readPattern r ≡ answered (concatOf a (now (words .entry)) b (now (more .entry)) «steps_per_bar») (now (out .entry))) × (now (out .exit) ≡ written (concatOf a (now (words .entry)) b (now (more .entry)) «steps_per_bar») (now (out .entry))) ⌝ }
+    ensures { λ r. ⌜ Outcome (concatOf a (now (words .entry)) b (now (more .entry)) «steps_per_bar») r (now (out .entry)) (now (out .exit)) ⌝ }
 {
-    let number = notes::two_number(words.len(), more.len());
+    let number = notes::refusal_of_two(words.len(), more.len());
     if number != 0 {
         return answers::by_number(number);
     }
@@ -83,9 +81,9 @@ pub fn concat(
 
 // a and b at once: of equal steps a's notes go first.
 pub fn layer(a: Pattern, words: &[u32], b: Pattern, more: &[u32], out: &mut [u32]) -> PatternAnswer
-    ensures { λ r. ⌜ (readPattern r ≡ answered (layerOf a (now (words .entry)) b (now (more .entry))) (now (out .entry))) × (now (out .exit) ≡ written (layerOf a (now (words .entry)) b (now (more .entry))) (now (out .entry))) ⌝ }
+    ensures { λ r. ⌜ Outcome (layerOf a (now (words .entry)) b (now (more .entry))) r (now (out .entry)) (now (out .exit)) ⌝ }
 {
-    let number = notes::two_number(words.len(), more.len());
+    let number = notes::refusal_of_two(words.len(), more.len());
     if number != 0 {
         return answers::by_number(number);
     }
@@ -109,9 +107,9 @@ pub fn slice(
     steps_per_bar: u32,
     out: &mut [u32],
 ) -> PatternAnswer
-    ensures { λ r. ⌜ (readPattern r ≡ answered (sliceOf p (now (words .entry)) start len «steps_per_bar») (now (out .entry))) × (now (out .exit) ≡ written (sliceOf p (now (words .entry)) start len «steps_per_bar») (now (out .entry))) ⌝ }
+    ensures { λ r. ⌜ Outcome (sliceOf p (now (words .entry)) start len «steps_per_bar») r (now (out .entry)) (now (out .exit)) ⌝ }
 {
-    let number = notes::one_number(words.len());
+    let number = notes::refusal_of_one(words.len());
     if number != 0 {
         return answers::by_number(number);
     }
@@ -125,9 +123,9 @@ pub fn slice(
 
 // Time scaled by exactly num / den: refused where something would fall between steps.
 pub fn stretch(p: Pattern, words: &[u32], num: u32, den: u32, out: &mut [u32]) -> PatternAnswer
-    ensures { λ r. ⌜ (readPattern r ≡ answered (stretchOf p (now (words .entry)) num den) (now (out .entry))) × (now (out .exit) ≡ written (stretchOf p (now (words .entry)) num den) (now (out .entry))) ⌝ }
+    ensures { λ r. ⌜ Outcome (stretchOf p (now (words .entry)) num den) r (now (out .entry)) (now (out .exit)) ⌝ }
 {
-    let number = notes::one_number(words.len());
+    let number = notes::refusal_of_one(words.len());
     if number != 0 {
         return answers::by_number(number);
     }
@@ -158,7 +156,7 @@ pub fn rotate(
     steps_per_bar: u32,
     out: &mut [u32],
 ) -> PatternAnswer
-    ensures { λ r. ⌜ (readPattern r ≡ answered (rotateOf p (now (words .entry)) shift «steps_per_bar») (now (out .entry))) × (now (out .exit) ≡ written (rotateOf p (now (words .entry)) shift «steps_per_bar») (now (out .entry))) ⌝ }
+    ensures { λ r. ⌜ Outcome (rotateOf p (now (words .entry)) shift «steps_per_bar») r (now (out .entry)) (now (out .exit)) ⌝ }
 {
     let total = steps::total(p.bars, steps_per_bar);
     mapping::each_sorted(p, words, Change::Rotated { shift, total }, out)
@@ -166,7 +164,7 @@ pub fn rotate(
 
 // The pattern mirrored in time.
 pub fn reverse(p: Pattern, words: &[u32], steps_per_bar: u32, out: &mut [u32]) -> PatternAnswer
-    ensures { λ r. ⌜ (readPattern r ≡ answered (reverseOf p (now (words .entry)) «steps_per_bar») (now (out .entry))) × (now (out .exit) ≡ written (reverseOf p (now (words .entry)) «steps_per_bar») (now (out .entry))) ⌝ }
+    ensures { λ r. ⌜ Outcome (reverseOf p (now (words .entry)) «steps_per_bar») r (now (out .entry)) (now (out .exit)) ⌝ }
 {
     let total = steps::total(p.bars, steps_per_bar);
     mapping::each_sorted(p, words, Change::Mirrored(total), out)
@@ -174,21 +172,21 @@ pub fn reverse(p: Pattern, words: &[u32], steps_per_bar: u32, out: &mut [u32]) -
 
 // Each step at the nearest multiple of the grid, halves going up.
 pub fn quantize(p: Pattern, words: &[u32], grid: u32, out: &mut [u32]) -> PatternAnswer
-    ensures { λ r. ⌜ (readPattern r ≡ answered (quantizeOf p (now (words .entry)) grid) (now (out .entry))) × (now (out .exit) ≡ written (quantizeOf p (now (words .entry)) grid) (now (out .entry))) ⌝ }
+    ensures { λ r. ⌜ Outcome (quantizeOf p (now (words .entry)) grid) r (now (out .entry)) (now (out .exit)) ⌝ }
 {
     mapping::each_sorted(p, words, Change::Snapped(grid), out)
 }
 
 // Each gain times `scale`, kept between 0 and 1.
 pub fn vel(p: Pattern, words: &[u32], scale: f32, out: &mut [u32]) -> PatternAnswer
-    ensures { λ r. ⌜ (readPattern r ≡ answered (velOf p (now (words .entry)) scale) (now (out .entry))) × (now (out .exit) ≡ written (velOf p (now (words .entry)) scale) (now (out .entry))) ⌝ }
+    ensures { λ r. ⌜ Outcome (velOf p (now (words .entry)) scale) r (now (out .entry)) (now (out .exit)) ⌝ }
 {
     mapping::each(p, words, Change::Scaled(scale), out)
 }
 
 // Each len times `factor`, rounded, and at least 1.
 pub fn gate(p: Pattern, words: &[u32], factor: f32, out: &mut [u32]) -> PatternAnswer
-    ensures { λ r. ⌜ (readPattern r ≡ answered (gateOf p (now (words .entry)) factor) (now (out .entry))) × (now (out .exit) ≡ written (gateOf p (now (words .entry)) factor) (now (out .entry))) ⌝ }
+    ensures { λ r. ⌜ Outcome (gateOf p (now (words .entry)) factor) r (now (out .entry)) (now (out .exit)) ⌝ }
 {
     mapping::each(p, words, Change::Gated(factor), out)
 }
@@ -204,7 +202,7 @@ pub fn euclidean(
     steps_per_bar: u32,
     out: &mut [u32],
 ) -> PatternAnswer
-    ensures { λ r. ⌜ (readPattern r ≡ answered (euclideanOf pulses steps tag len «steps_per_bar») (now (out .entry))) × (now (out .exit) ≡ written (euclideanOf pulses steps tag len «steps_per_bar») (now (out .entry))) ⌝ }
+    ensures { λ r. ⌜ Outcome (euclideanOf pulses steps tag len «steps_per_bar») r (now (out .entry)) (now (out .exit)) ⌝ }
 {
     if steps == 0 {
         return PatternAnswer::BadNumbers;
@@ -221,7 +219,7 @@ pub fn euclidean(
 
 // `count` notes spaced evenly over `steps` steps of one bar.
 pub fn tuplet(count: u32, steps: u32, tag: u32, len: u32, out: &mut [u32]) -> PatternAnswer
-    ensures { λ r. ⌜ (readPattern r ≡ answered (tupletOf count steps tag len) (now (out .entry))) × (now (out .exit) ≡ written (tupletOf count steps tag len) (now (out .entry))) ⌝ }
+    ensures { λ r. ⌜ Outcome (tupletOf count steps tag len) r (now (out .entry)) (now (out .exit)) ⌝ }
 {
     if count as usize > out.len() / 4 {
         return PatternAnswer::NoRoom;

@@ -4,18 +4,16 @@ use crate::PatternAnswer;
 use crate::answers;
 use rhythm::changing;
 use rhythm::changing::Change;
-ghost use mathlib.Core.Path.{_≡_};
 ghost use Rattle.rhythm.specs.Changes.{Ready};
-ghost use Rattle.pattern.specs.Phrases.{answered, written};
 ghost use Rattle.pattern.specs.Calls.{eachOf, eachSortedOf};
-ghost use Rattle.pattern.specs.Readings.{readPattern};
+ghost use Rattle.pattern.specs.Readings.{Outcome};
 
 // The call that changes each note and keeps their order.
 pub fn each(p: Pattern, words: &[u32], how: Change, out: &mut [u32]) -> PatternAnswer
     requires { ⌜ Ready how ⌝ }
-    ensures { λ r. ⌜ (readPattern r ≡ answered (eachOf how p (now (words .entry))) (now (out .entry))) × (now (out .exit) ≡ written (eachOf how p (now (words .entry))) (now (out .entry))) ⌝ }
+    ensures { λ r. ⌜ Outcome (eachOf how p (now (words .entry))) r (now (out .entry)) (now (out .exit)) ⌝ }
 {
-    let number = notes::one_number(words.len());
+    let number = notes::refusal_of_one(words.len());
     if number != 0 {
         return answers::by_number(number);
     }
@@ -29,9 +27,9 @@ pub fn each(p: Pattern, words: &[u32], how: Change, out: &mut [u32]) -> PatternA
 // The call that changes each note and sorts them by step.
 pub fn each_sorted(p: Pattern, words: &[u32], how: Change, out: &mut [u32]) -> PatternAnswer
     requires { ⌜ Ready how ⌝ }
-    ensures { λ r. ⌜ (readPattern r ≡ answered (eachSortedOf how p (now (words .entry))) (now (out .entry))) × (now (out .exit) ≡ written (eachSortedOf how p (now (words .entry))) (now (out .entry))) ⌝ }
+    ensures { λ r. ⌜ Outcome (eachSortedOf how p (now (words .entry))) r (now (out .entry)) (now (out .exit)) ⌝ }
 {
-    let number = notes::one_number(words.len());
+    let number = notes::refusal_of_one(words.len());
     if number != 0 {
         return answers::by_number(number);
     }

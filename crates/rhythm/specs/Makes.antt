@@ -27,7 +27,7 @@ hitsFrom pulses steps note i (suc more) =
 
 -- ---- tuplet
 
--- so many notes, note k being the k-th from k on
+-- so many notes: note k, note k + 1 and so on
 unfoldable pub row : (ℕ → Note) → ℕ → ℕ → List Note
 row note k zero = []
 row note k (suc more) = note k ∷ row note (suc k) more

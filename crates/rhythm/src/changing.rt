@@ -10,12 +10,17 @@ ghost use Rattle.notes.specs.Notes.{notesOf, wordsOf};
 ghost use Rattle.rhythm.specs.Changes.{changed, Ready};
 
 pub enum Change {
+    // each step so many steps later
     Later(u64),
     Stretched { num: u32, den: u32 },
     Rotated { shift: i64, total: u64 },
+    // the total of the pattern's steps, in which each note is mirrored
     Mirrored(u64),
+    // the grid in steps, to whose multiples each step goes
     Snapped(u32),
+    // what each gain is multiplied by
     Scaled(f32),
+    // what each len is multiplied by
     Gated(f32),
 }
 

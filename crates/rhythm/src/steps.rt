@@ -1,10 +1,10 @@
 // The arithmetic of steps, bars, gains and lengths. Steps and bars are worked out exactly and stop
 // at 2^32 - 1; only a rotated step keeps its low 32 bits instead.
 ghost use mathlib.Core.Path.{_≡_};
-ghost use Prim.Native.Nat.{min, max, _+_, _*_, _^_, _≤_, _<_};
+ghost use Prim.Native.Nat.{min, _+_, _*_, _^_, _≤_, _<_};
 ghost use lib.IntN.{pos, _+ℤ_};
 ghost use Rattle.numbers.specs.Signs.{withSign};
-ghost use Rattle.rhythm.specs.Values.{mostStep, laterStep, stretchedBy, remainder, rotatedStep, mirroredStep, snappedStep, scaledGain, gatedLen, barsFor};
+ghost use Rattle.rhythm.specs.Values.{mostStep, totalSteps, laterStep, stretchedBy, remainder, rotatedStep, mirroredStep, snappedStep, scaledGain, gatedLen, barsFor};
 
 // a + b bars.
 pub fn sum_bars(a: u32, b: u32) -> u32
@@ -21,7 +21,7 @@ pub fn times_bars(bars: u32, times: u32) -> u32
 
 // The steps of a number of bars.
 pub fn total(bars: u32, steps_per_bar: u32) -> u64
-    ensures { λ r. ⌜ r ≡ bars * max «steps_per_bar» 1 ⌝ }
+    ensures { λ r. ⌜ r ≡ totalSteps bars «steps_per_bar» ⌝ }
 {
     bars as u64 * numbers::larger(steps_per_bar, 1) as u64
 }

@@ -11,7 +11,7 @@ use Rattle.notes.proofs.Laws.{Two, two}
 use Rattle.rhythm.specs.Joins.{joined}
 use Rattle.rhythm.specs.Values.{totalSteps}
 use Rattle.pattern.proofs.Joined.{count-joined}
-use Rattle.pattern.proofs.Outcomes.{by-number, two-number-is, passed, no-room, wrote}
+use Rattle.pattern.proofs.Outcomes.{by-number, refusal-of-two-is, passed, no-room, wrote}
 use Rattle.pattern.proofs.concat.Tie as tie
 use Rattle.pattern.proofs.concat.Statement.{statement}
 
@@ -20,7 +20,7 @@ abbrev start : tie.Else1 → tie.Start
 start c = c .before .before .before .before .before
 
 both : (c : tie.Else1) → Two (length (start c .args .words .now)) (length (start c .args .more .now))
-both c = two (length (start c .args .words .now)) (length (start c .args .more .now)) (sym (c .before .two-number .ensures) ∙ c .if1 .left)
+both c = two (length (start c .args .words .now)) (length (start c .args .more .now)) (sym (c .before .refusal-of-two .ensures) ∙ c .if1 .left)
 
 abbrev all : tie.Else1 → List Note
 all c = let a = start c .args in joined (totalSteps (a .a .bars) (a .steps-per-bar)) (notesOf (a .words .now)) (notesOf (a .more .now))
@@ -28,16 +28,16 @@ all c = let a = start c .args in joined (totalSteps (a .a .bars) (a .steps-per-b
 count : (c : tie.Else1) → 4 * length (all c) ≡ length (start c .args .words .now) + length (start c .args .more .now)
 count c = count-joined (start c .args .words .now) (start c .args .more .now) (both c) _
 
-two-number-requires : tie.Need-two-number-requires
-two-number-requires c κs = search needs
+refusal-of-two-requires : tie.Need-refusal-of-two-requires
+refusal-of-two-requires c κs = search needs
 
 by-number-requires : tie.Need-by-number-requires
 by-number-requires c κs =
     let s = c .before .before .before .before .before .args in
-    two-number-is (c .before .two-number .result) (c .if1 .taken) (length (s .words .now)) (length (s .more .now)) (c .before .two-number .ensures)
+    refusal-of-two-is (c .before .refusal-of-two .result) (c .if1 .taken) (length (s .words .now)) (length (s .more .now)) (c .before .refusal-of-two .ensures)
 
 returns : tie.Need-returns
-returns c = let k = c .before .before in by-number _ _ (k .two-number .result) (k .two-number .ensures) (c .before .if1 .taken) (c .by-number .result) (c .by-number .ensures)
+returns c = let k = c .before .before in by-number _ _ (k .refusal-of-two .result) (k .refusal-of-two .ensures) (c .before .if1 .taken) (c .by-number .result) (c .by-number .ensures)
 
 add-size : tie.Need-add-size
 add-size c = search needs
@@ -45,7 +45,7 @@ add-size c = search needs
 returns-2 : tie.Need-returns-2
 returns-2 c =
     let t = c .before in
-    no-room _ (all t) _ _ (passed _ _ (t .before .two-number .result) (t .before .two-number .ensures) (t .if1 .left)) (omega (arith, count t))
+    no-room _ (all t) _ _ (passed _ _ (t .before .refusal-of-two .result) (t .before .refusal-of-two .ensures) (t .if1 .left)) (omega (arith, count t))
 
 total-requires : tie.Need-total-requires
 total-requires c κs = search needs
@@ -70,7 +70,7 @@ returns-3 c =
     let a = start t .args in
     let ns = notesOf (a .words .now) in
     let size = length (a .words .now) + length (a .more .now) in
-    wrote _ (all t) _ _ (passed _ _ (t .before .two-number .result) (t .before .two-number .ensures) (t .if1 .left)) (omega (arith, count t)) (c .wrote .result)
+    wrote _ (all t) _ _ (passed _ _ (t .before .refusal-of-two .result) (t .before .refusal-of-two .ensures) (t .if1 .left)) (omega (arith, count t)) (c .wrote .result)
     (c .wrote .ensures) (omega (arith, count t)) (c .before .sum-bars .ensures)
     (p .join .ensures
     ∙ ap (λ (k : ℕ). wordsOf (joined k ns (notesOf (a .more .now))) ++ drop size (a .out .now)) (f .total .ensures)
@@ -80,7 +80,7 @@ pub concat-spec : {M : Type 1} → statement M
 concat-spec =
     tie.close
     (tie.spec
-    two-number-requires
+    refusal-of-two-requires
     by-number-requires
     returns
     add-size

@@ -13,7 +13,7 @@ use Rattle.notes.proofs.Laws.{Two, two, length-words, length-sort, sort-front}
 use Rattle.rhythm.specs.Joins.{later}
 use Rattle.rhythm.proofs.Laws.{later-zero}
 use Rattle.pattern.proofs.Joined.{count-both}
-use Rattle.pattern.proofs.Outcomes.{by-number, two-number-is, passed, no-room, wrote}
+use Rattle.pattern.proofs.Outcomes.{by-number, refusal-of-two-is, passed, no-room, wrote}
 use Rattle.pattern.proofs.layer.Tie as tie
 use Rattle.pattern.proofs.layer.Statement.{statement}
 
@@ -22,7 +22,7 @@ abbrev start : tie.Else1 → tie.Start
 start c = c .before .before .before .before .before
 
 both : (c : tie.Else1) → Two (length (start c .args .words .now)) (length (start c .args .more .now))
-both c = two (length (start c .args .words .now)) (length (start c .args .more .now)) (sym (c .before .two-number .ensures) ∙ c .if1 .left)
+both c = two (length (start c .args .words .now)) (length (start c .args .more .now)) (sym (c .before .refusal-of-two .ensures) ∙ c .if1 .left)
 
 abbrev all : tie.Else1 → List Note
 all c = notesOf (start c .args .words .now) ++ notesOf (start c .args .more .now)
@@ -34,16 +34,16 @@ count c = count-both (start c .args .words .now) (start c .args .more .now) (bot
 plain : (c : tie.Else1) → map (later 0) (notesOf (start c .args .more .now)) ≡ notesOf (start c .args .more .now)
 plain c = later-zero (start c .args .more .now) (λ i. c .before .before .before .shared-slice-known2 .given i .fits)
 
-two-number-requires : tie.Need-two-number-requires
-two-number-requires c κs = search needs
+refusal-of-two-requires : tie.Need-refusal-of-two-requires
+refusal-of-two-requires c κs = search needs
 
 by-number-requires : tie.Need-by-number-requires
 by-number-requires c κs =
     let s = c .before .before .before .before .before .args in
-    two-number-is (c .before .two-number .result) (c .if1 .taken) (length (s .words .now)) (length (s .more .now)) (c .before .two-number .ensures)
+    refusal-of-two-is (c .before .refusal-of-two .result) (c .if1 .taken) (length (s .words .now)) (length (s .more .now)) (c .before .refusal-of-two .ensures)
 
 returns : tie.Need-returns
-returns c = let k = c .before .before in by-number _ _ (k .two-number .result) (k .two-number .ensures) (c .before .if1 .taken) (c .by-number .result) (c .by-number .ensures)
+returns c = let k = c .before .before in by-number _ _ (k .refusal-of-two .result) (k .refusal-of-two .ensures) (c .before .if1 .taken) (c .by-number .result) (c .by-number .ensures)
 
 add-size : tie.Need-add-size
 add-size c = search needs
@@ -51,7 +51,7 @@ add-size c = search needs
 returns-2 : tie.Need-returns-2
 returns-2 c =
     let t = c .before in
-    no-room _ (sortByStep (all t)) _ _ (passed _ _ (t .before .two-number .result) (t .before .two-number .ensures) (t .if1 .left)) (omega (arith, count t, length-sort (all t)))
+    no-room _ (sortByStep (all t)) _ _ (passed _ _ (t .before .refusal-of-two .result) (t .before .refusal-of-two .ensures) (t .if1 .left)) (omega (arith, count t, length-sort (all t)))
 
 join-requires : tie.Need-join-requires
 join-requires c κs = let b = both (c .before .before) in (b .first .even, b .second .even, omega arith)
@@ -94,7 +94,7 @@ returns-3 c =
     let k = length-sort ns in
     let e : m ≡ 4 * length (sortByStep ns) = omega (arith, count t, k) in
     let joins = p .join .ensures ∙ ap (λ (l : List Note). wordsOf (notesOf (a .words .now) ++ l) ++ drop m (a .out .now)) (plain t) in
-    wrote _ (sortByStep ns) _ _ (passed _ _ (t .before .two-number .result) (t .before .two-number .ensures) (t .if1 .left)) (omega (arith, count t, k))
+    wrote _ (sortByStep ns) _ _ (passed _ _ (t .before .refusal-of-two .result) (t .before .refusal-of-two .ensures) (t .if1 .left)) (omega (arith, count t, k))
     (c .wrote .result) (c .wrote .ensures) (omega (arith, count t, k)) (c .before .larger .ensures)
     (sort-front ns (a .out .now) (p .join .last .1 .1 .1 .0) (q .sort-by-step .last .0) m (length-words ns ∙ omega (arith, count t)) joins (q .sort-by-step .ensures)
     ∙ ap (λ (n : ℕ). wordsOf (sortByStep ns) ++ drop n (a .out .now)) e)
@@ -103,7 +103,7 @@ pub layer-spec : {M : Type 1} → statement M
 layer-spec =
     tie.close
     (tie.spec
-    two-number-requires
+    refusal-of-two-requires
     by-number-requires
     returns
     add-size

@@ -12,7 +12,7 @@ use Rattle.notes.proofs.Laws.{One, one}
 use Rattle.rhythm.specs.Joins.{copiesFrom}
 use Rattle.rhythm.specs.Values.{totalSteps}
 use Rattle.rhythm.proofs.Laws.{count-copies}
-use Rattle.pattern.proofs.Outcomes.{by-number, one-number-is, passed, no-room, wrote}
+use Rattle.pattern.proofs.Outcomes.{by-number, refusal-of-one-is, passed, no-room, wrote}
 use Rattle.pattern.proofs.repeat.Tie as tie
 use Rattle.pattern.proofs.repeat.Statement.{statement}
 
@@ -21,7 +21,7 @@ abbrev start : tie.Else1 → tie.Start
 start c = c .before .before .before .before
 
 whole : (c : tie.Else1) → One (length (start c .args .words .now))
-whole c = one (length (start c .args .words .now)) (sym (c .before .one-number .ensures) ∙ c .if1 .left)
+whole c = one (length (start c .args .words .now)) (sym (c .before .refusal-of-one .ensures) ∙ c .if1 .left)
 
 abbrev all : tie.Else1 → List Note
 all c = let a = start c .args in copiesFrom (totalSteps (a .p .bars) (a .steps-per-bar)) (notesOf (a .words .now)) 0 (a .times)
@@ -29,14 +29,14 @@ all c = let a = start c .args in copiesFrom (totalSteps (a .p .bars) (a .steps-p
 count : (c : tie.Else1) → 4 * length (all c) ≡ length (start c .args .words .now) * start c .args .times
 count c = count-copies (start c .args .words .now) _ (start c .args .times) (whole c .even)
 
-one-number-requires : tie.Need-one-number-requires
-one-number-requires c κs = search needs
+refusal-of-one-requires : tie.Need-refusal-of-one-requires
+refusal-of-one-requires c κs = search needs
 
 by-number-requires : tie.Need-by-number-requires
-by-number-requires c κs = one-number-is (c .before .one-number .result) (c .if1 .taken) (length (c .before .before .before .before .args .words .now)) (c .before .one-number .ensures)
+by-number-requires c κs = refusal-of-one-is (c .before .refusal-of-one .result) (c .if1 .taken) (length (c .before .before .before .before .args .words .now)) (c .before .refusal-of-one .ensures)
 
 returns : tie.Need-returns
-returns c = let k = c .before .before in by-number _ _ (k .one-number .result) (k .one-number .ensures) (c .before .if1 .taken) (c .by-number .result) (c .by-number .ensures)
+returns c = let k = c .before .before in by-number _ _ (k .refusal-of-one .result) (k .refusal-of-one .ensures) (c .before .if1 .taken) (c .by-number .result) (c .by-number .ensures)
 
 mul-size : tie.Need-mul-size
 mul-size c = record { fits = product-fits _ _ (let w = whole c in omega arith) (search needs) }
@@ -44,7 +44,7 @@ mul-size c = record { fits = product-fits _ _ (let w = whole c in omega arith) (
 returns-2 : tie.Need-returns-2
 returns-2 c =
     let t = c .before in
-    no-room _ (all t) _ _ (passed _ _ (t .before .one-number .result) (t .before .one-number .ensures) (t .if1 .left)) (omega (arith, count t))
+    no-room _ (all t) _ _ (passed _ _ (t .before .refusal-of-one .result) (t .before .refusal-of-one .ensures) (t .if1 .left)) (omega (arith, count t))
 
 total-requires : tie.Need-total-requires
 total-requires c κs = search needs
@@ -67,7 +67,7 @@ returns-3 c =
     let f = p .before .before in
     let t = f .before .before in
     let a = start t .args in
-    wrote _ (all t) _ _ (passed _ _ (t .before .one-number .result) (t .before .one-number .ensures) (t .if1 .left)) (omega (arith, count t)) (c .wrote .result)
+    wrote _ (all t) _ _ (passed _ _ (t .before .refusal-of-one .result) (t .before .refusal-of-one .ensures) (t .if1 .left)) (omega (arith, count t)) (c .wrote .result)
     (c .wrote .ensures) (omega (arith, count t)) (c .before .times-bars .ensures)
     (p .copies .ensures
     ∙ ap (λ (k : ℕ). wordsOf (copiesFrom k (notesOf (a .words .now)) 0 (a .times)) ++ drop (length (a .words .now) * a .times) (a .out .now)) (f .total .ensures)
@@ -77,7 +77,7 @@ pub repeat-spec : {M : Type 1} → statement M
 repeat-spec =
     tie.close
     (tie.spec
-    one-number-requires
+    refusal-of-one-requires
     by-number-requires
     returns
     mul-size

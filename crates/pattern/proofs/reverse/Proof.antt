@@ -4,7 +4,7 @@ use Prim.Native.Nat.{ℕ}
 use borrow.Author.Needs.{needs}
 use Rattle.rhythm.specs.declared.changing.Change.the-variants.{Mirrored}
 use Rattle.pattern.specs.Calls.{eachSortedOf}
-use Rattle.pattern.proofs.Outcomes.{Told}
+use Rattle.pattern.specs.Readings.{Outcome}
 use Rattle.pattern.proofs.reverse.Tie as tie
 use Rattle.pattern.proofs.reverse.Statement.{statement}
 
@@ -22,7 +22,7 @@ returns c =
     let e = c .before .before in
     let t = e .before .before in
     let a = t .before .before .before .args in
-    subst (λ (total : ℕ). Told (eachSortedOf (Mirrored total) (a .p) (a .words .now)) (e .each-sorted .result) (a .out .now) (e .each-sorted .last .1 .1 .1 .0))
+    subst (λ (total : ℕ). Outcome (eachSortedOf (Mirrored total) (a .p) (a .words .now)) (e .each-sorted .result) (a .out .now) (e .each-sorted .last .1 .1 .1 .0))
     (t .total .ensures) (e .each-sorted .ensures)
 
 pub reverse-spec : {M : Type 1} → statement M

@@ -7,7 +7,7 @@ use mir.ValLaws.{toZ-ofZ}
 use borrow.Author.Needs.{needs}
 use Rattle.rhythm.specs.declared.changing.Change.the-variants.{Rotated}
 use Rattle.pattern.specs.Calls.{eachSortedOf}
-use Rattle.pattern.proofs.Outcomes.{Told}
+use Rattle.pattern.specs.Readings.{Outcome}
 use Rattle.pattern.proofs.rotate.Tie as tie
 use Rattle.pattern.proofs.rotate.Statement.{statement}
 
@@ -26,8 +26,8 @@ returns c =
     let t = e .before .before in
     let s = t .before .before .before in
     let a = s .args in
-    let told : ℤ → ℕ → Type 0 = λ shift total. Told (eachSortedOf (Rotated shift total) (a .p) (a .words .now)) (e .each-sorted .result) (a .out .now) (e .each-sorted .last .1 .1 .1 .0) in
-    subst (told (a .shift)) (t .total .ensures) (subst (λ (shift : ℤ). told shift (t .total .result)) (toZ-ofZ w64 (a .shift) (s .fits .shift)) (e .each-sorted .ensures))
+    let outcome : ℤ → ℕ → Type 0 = λ shift total. Outcome (eachSortedOf (Rotated shift total) (a .p) (a .words .now)) (e .each-sorted .result) (a .out .now) (e .each-sorted .last .1 .1 .1 .0) in
+    subst (outcome (a .shift)) (t .total .ensures) (subst (λ (shift : ℤ). outcome shift (t .total .result)) (toZ-ofZ w64 (a .shift) (s .fits .shift)) (e .each-sorted .ensures))
 
 pub rotate-spec : {M : Type 1} → statement M
 rotate-spec = tie.close (tie.spec total-requires each-sorted-requires same-length returns)

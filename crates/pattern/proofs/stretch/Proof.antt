@@ -16,7 +16,7 @@ use Rattle.rhythm.specs.Values.{stretchedBy}
 use Rattle.pattern.specs.declared.PatternAnswer.the-variants as P
 use Rattle.pattern.specs.Calls.{stretchOf}
 use Rattle.pattern.specs.Phrases.{phrase}
-use Rattle.pattern.proofs.Outcomes.{by-number, one-number-is, by-refusal, no-room, wrote}
+use Rattle.pattern.proofs.Outcomes.{by-number, refusal-of-one-is, by-refusal, no-room, wrote}
 use Rattle.pattern.proofs.Ratio.{zero-num, zero-den, off, fits}
 use Rattle.pattern.proofs.stretch.Tie as tie
 use Rattle.pattern.proofs.stretch.Statement.{statement}
@@ -26,7 +26,7 @@ abbrev start : tie.Else1 → tie.Start
 start c = c .before .before .before .before
 
 whole : (c : tie.Else1) → One (length (start c .args .words .now))
-whole c = one (length (start c .args .words .now)) (sym (c .before .one-number .ensures) ∙ c .if1 .left)
+whole c = one (length (start c .args .words .now)) (sym (c .before .refusal-of-one .ensures) ∙ c .if1 .left)
 
 abbrev all : tie.Else1 → List Note
 all c = let a = start c .args in map (stretched (a .num) (a .den)) (notesOf (a .words .now))
@@ -41,29 +41,29 @@ given : (d : tie.Else3) (g : Grid) → (let a = start (d .before .before) .args 
 given d g e f =
     let t = d .before .before in
     let a = start t .args in
-    fits (a .p) (a .words .now) (a .num) (a .den) (t .before .one-number .result) (t .before .one-number .ensures) (t .if1 .left) (d .before .if2 .left) (d .if3 .left) (sym (ap readGrid f) ∙ e)
+    fits (a .p) (a .words .now) (a .num) (a .den) (t .before .refusal-of-one .result) (t .before .refusal-of-one .ensures) (t .if1 .left) (d .before .if2 .left) (d .if3 .left) (sym (ap readGrid f) ∙ e)
 
-one-number-requires : tie.Need-one-number-requires
-one-number-requires c κs = search needs
+refusal-of-one-requires : tie.Need-refusal-of-one-requires
+refusal-of-one-requires c κs = search needs
 
 by-number-requires : tie.Need-by-number-requires
-by-number-requires c κs = one-number-is (c .before .one-number .result) (c .if1 .taken) (length (c .before .before .before .before .args .words .now)) (c .before .one-number .ensures)
+by-number-requires c κs = refusal-of-one-is (c .before .refusal-of-one .result) (c .if1 .taken) (length (c .before .before .before .before .args .words .now)) (c .before .refusal-of-one .ensures)
 
 returns : tie.Need-returns
-returns c = let k = c .before .before in by-number _ _ (k .one-number .result) (k .one-number .ensures) (c .before .if1 .taken) (c .by-number .result) (c .by-number .ensures)
+returns c = let k = c .before .before in by-number _ _ (k .refusal-of-one .result) (k .refusal-of-one .ensures) (c .before .if1 .taken) (c .by-number .result) (c .by-number .ensures)
 
 returns-2 : tie.Need-returns-2
 returns-2 c =
     let t = c .before in
     let a = start t .args in
-    by-refusal _ 6 [] (zero-num (a .p) (a .words .now) (a .num) (a .den) (t .before .one-number .result) (t .before .one-number .ensures) (t .if1 .left) (c .if2 .taken)) P.BadNumbers refl
+    by-refusal _ 6 [] (zero-num (a .p) (a .words .now) (a .num) (a .den) (t .before .refusal-of-one .result) (t .before .refusal-of-one .ensures) (t .if1 .left) (c .if2 .taken)) P.BadNumbers refl
 
 returns-3 : tie.Need-returns-3
 returns-3 c =
     let n = c .before in
     let t = n .before in
     let a = start t .args in
-    by-refusal _ 6 [] (zero-den (a .p) (a .words .now) (a .num) (a .den) (t .before .one-number .result) (t .before .one-number .ensures) (t .if1 .left) (n .if2 .left) (c .if3 .taken))
+    by-refusal _ 6 [] (zero-den (a .p) (a .words .now) (a .num) (a .den) (t .before .refusal-of-one .result) (t .before .refusal-of-one .ensures) (t .if1 .left) (n .if2 .left) (c .if3 .taken))
     P.BadNumbers refl
 
 off-grid-requires : tie.Need-off-grid-requires
@@ -80,7 +80,7 @@ returns-4 c =
     let t = d .before .before in
     let a = start t .args in
     by-refusal _ 7 _
-    (off (a .p) (a .words .now) (a .num) (a .den) (t .before .one-number .result) (t .before .one-number .ensures) (t .if1 .left) (d .before .if2 .left) (d .if3 .left) _ _
+    (off (a .p) (a .words .now) (a .num) (a .den) (t .before .refusal-of-one .result) (t .before .refusal-of-one .ensures) (t .if1 .left) (d .before .if2 .left) (d .if3 .left) _ _
     (sym (ap readGrid (f .1)) ∙ g .off-grid .ensures))
     (P.OffGrid _ _ _) refl
 
@@ -126,7 +126,7 @@ pub stretch-spec : {M : Type 1} → statement M
 stretch-spec =
     tie.close
     (tie.spec
-    one-number-requires
+    refusal-of-one-requires
     by-number-requires
     returns
     returns-2

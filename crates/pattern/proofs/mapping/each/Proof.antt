@@ -9,7 +9,7 @@ use Rattle.notes.specs.declared.Note.{Note}
 use Rattle.notes.specs.Notes.{notesOf, wordsOf}
 use Rattle.notes.proofs.Laws.{One, one, length-notes}
 use Rattle.rhythm.specs.Changes.{changed}
-use Rattle.pattern.proofs.Outcomes.{by-number, one-number-is, passed, no-room, wrote}
+use Rattle.pattern.proofs.Outcomes.{by-number, refusal-of-one-is, passed, no-room, wrote}
 use Rattle.pattern.proofs.mapping.each.Tie as tie
 use Rattle.pattern.proofs.mapping.each.Statement.{statement}
 
@@ -18,7 +18,7 @@ abbrev start : tie.Else1 → tie.Start
 start c = c .before .before .before .before
 
 whole : (c : tie.Else1) → One (length (start c .args .words .now))
-whole c = one (length (start c .args .words .now)) (sym (c .before .one-number .ensures) ∙ c .if1 .left)
+whole c = one (length (start c .args .words .now)) (sym (c .before .refusal-of-one .ensures) ∙ c .if1 .left)
 
 -- the notes that are written
 abbrev made : tie.Else1 → List Note
@@ -27,20 +27,20 @@ made c = map (changed (start c .args .how)) (notesOf (start c .args .words .now)
 count : (c : tie.Else1) → length (made c) ≡ length (start c .args .words .now) / 4
 count c = simp (length-map, length-notes)
 
-one-number-requires : tie.Need-one-number-requires
-one-number-requires c κs = search needs
+refusal-of-one-requires : tie.Need-refusal-of-one-requires
+refusal-of-one-requires c κs = search needs
 
 by-number-requires : tie.Need-by-number-requires
-by-number-requires c κs = one-number-is (c .before .one-number .result) (c .if1 .taken) (length (c .before .before .before .before .args .words .now)) (c .before .one-number .ensures)
+by-number-requires c κs = refusal-of-one-is (c .before .refusal-of-one .result) (c .if1 .taken) (length (c .before .before .before .before .args .words .now)) (c .before .refusal-of-one .ensures)
 
 returns : tie.Need-returns
-returns c = let k = c .before .before in by-number _ _ (k .one-number .result) (k .one-number .ensures) (c .before .if1 .taken) (c .by-number .result) (c .by-number .ensures)
+returns c = let k = c .before .before in by-number _ _ (k .refusal-of-one .result) (k .refusal-of-one .ensures) (c .before .if1 .taken) (c .by-number .result) (c .by-number .ensures)
 
 returns-2 : tie.Need-returns-2
 returns-2 c =
     let t = c .before in
     let w = whole t in
-    no-room _ (made t) _ _ (passed _ _ (t .before .one-number .result) (t .before .one-number .ensures) (t .if1 .left)) (omega (arith, count t))
+    no-room _ (made t) _ _ (passed _ _ (t .before .refusal-of-one .result) (t .before .refusal-of-one .ensures) (t .if1 .left)) (omega (arith, count t))
 
 copy-requires : tie.Need-copy-requires
 copy-requires c κs =
@@ -61,7 +61,7 @@ returns-3 c =
     let w = whole t in
     let a = start t .args in
     let e : length (a .words .now) ≡ 4 * length (made t) = omega (arith, count t) in
-    wrote _ (made t) _ _ (passed _ _ (t .before .one-number .result) (t .before .one-number .ensures) (t .if1 .left)) (omega (arith, count t)) (c .wrote .result)
+    wrote _ (made t) _ _ (passed _ _ (t .before .refusal-of-one .result) (t .before .refusal-of-one .ensures) (t .if1 .left)) (omega (arith, count t)) (c .wrote .result)
     (c .wrote .ensures) (sym (count t)) refl
     (p .copy .ensures ∙ ap (λ (k : ℕ). wordsOf (made t) ++ drop k (a .out .now)) e)
 
@@ -69,7 +69,7 @@ pub each-spec : {M : Type 1} → statement M
 each-spec =
     tie.close
     (tie.spec
-    one-number-requires
+    refusal-of-one-requires
     by-number-requires
     returns
     returns-2

@@ -11,7 +11,7 @@ use Rattle.notes.specs.Notes.{notesOf, wordsOf}
 use Rattle.notes.specs.Sorting.{sortByStep}
 use Rattle.notes.proofs.Laws.{One, one, length-notes, length-words, length-sort, sort-front}
 use Rattle.rhythm.specs.Changes.{changed}
-use Rattle.pattern.proofs.Outcomes.{by-number, one-number-is, passed, no-room, wrote}
+use Rattle.pattern.proofs.Outcomes.{by-number, refusal-of-one-is, passed, no-room, wrote}
 use Rattle.pattern.proofs.mapping.each_sorted.Tie as tie
 use Rattle.pattern.proofs.mapping.each_sorted.Statement.{statement}
 
@@ -20,7 +20,7 @@ abbrev start : tie.Else1 → tie.Start
 start c = c .before .before .before .before
 
 whole : (c : tie.Else1) → One (length (start c .args .words .now))
-whole c = one (length (start c .args .words .now)) (sym (c .before .one-number .ensures) ∙ c .if1 .left)
+whole c = one (length (start c .args .words .now)) (sym (c .before .refusal-of-one .ensures) ∙ c .if1 .left)
 
 -- the notes that are written
 abbrev made : tie.Else1 → List Note
@@ -29,20 +29,20 @@ made c = map (changed (start c .args .how)) (notesOf (start c .args .words .now)
 count : (c : tie.Else1) → length (made c) ≡ length (start c .args .words .now) / 4
 count c = simp (length-map, length-notes)
 
-one-number-requires : tie.Need-one-number-requires
-one-number-requires c κs = search needs
+refusal-of-one-requires : tie.Need-refusal-of-one-requires
+refusal-of-one-requires c κs = search needs
 
 by-number-requires : tie.Need-by-number-requires
-by-number-requires c κs = one-number-is (c .before .one-number .result) (c .if1 .taken) (length (c .before .before .before .before .args .words .now)) (c .before .one-number .ensures)
+by-number-requires c κs = refusal-of-one-is (c .before .refusal-of-one .result) (c .if1 .taken) (length (c .before .before .before .before .args .words .now)) (c .before .refusal-of-one .ensures)
 
 returns : tie.Need-returns
-returns c = let k = c .before .before in by-number _ _ (k .one-number .result) (k .one-number .ensures) (c .before .if1 .taken) (c .by-number .result) (c .by-number .ensures)
+returns c = let k = c .before .before in by-number _ _ (k .refusal-of-one .result) (k .refusal-of-one .ensures) (c .before .if1 .taken) (c .by-number .result) (c .by-number .ensures)
 
 returns-2 : tie.Need-returns-2
 returns-2 c =
     let t = c .before in
     let w = whole t in
-    no-room _ (sortByStep (made t)) _ _ (passed _ _ (t .before .one-number .result) (t .before .one-number .ensures) (t .if1 .left)) (omega (arith, count t, length-sort (made t)))
+    no-room _ (sortByStep (made t)) _ _ (passed _ _ (t .before .refusal-of-one .result) (t .before .refusal-of-one .ensures) (t .if1 .left)) (omega (arith, count t, length-sort (made t)))
 
 copy-requires : tie.Need-copy-requires
 copy-requires c κs =
@@ -84,7 +84,7 @@ returns-3 c =
     let ns = made t in
     let m = length (a .words .now) in
     let e : m ≡ 4 * length (sortByStep ns) = omega (arith, count t, length-sort ns) in
-    wrote _ (sortByStep ns) _ _ (passed _ _ (t .before .one-number .result) (t .before .one-number .ensures) (t .if1 .left)) (omega (arith, count t, length-sort ns))
+    wrote _ (sortByStep ns) _ _ (passed _ _ (t .before .refusal-of-one .result) (t .before .refusal-of-one .ensures) (t .if1 .left)) (omega (arith, count t, length-sort ns))
     (c .wrote .result) (c .wrote .ensures)
     (omega (arith, count t, length-sort ns)) refl
     (sort-front ns (a .out .now) (p .copy .last .1 .1 .0) (q .sort-by-step .last .0) m (length-words ns ∙ omega (arith, count t)) (p .copy .ensures) (q .sort-by-step .ensures)
@@ -94,7 +94,7 @@ pub each-sorted-spec : {M : Type 1} → statement M
 each-sorted-spec =
     tie.close
     (tie.spec
-    one-number-requires
+    refusal-of-one-requires
     by-number-requires
     returns
     returns-2

@@ -1,7 +1,7 @@
 -- Each return by the tests that led there.
 use borrow.Author.Tests.{ne-eqb, eq-eqb, le-leb, lt-leb}
-use Rattle.notes.proofs.two_number.Tie as tie
-use Rattle.notes.proofs.two_number.Statement.{statement}
+use Rattle.notes.proofs.refusal_of_two.Tie as tie
+use Rattle.notes.proofs.refusal_of_two.Statement.{statement}
 
 returns : tie.Need-returns
 returns c = simp (ne-eqb _ _ (c .if1 .taken))
@@ -18,5 +18,5 @@ returns-4 c = simp (eq-eqb _ _ (c .before .before .before .if1 .left), eq-eqb _ 
 returns-5 : tie.Need-returns-5
 returns-5 c = simp (eq-eqb _ _ (c .before .before .before .if1 .left), eq-eqb _ _ (c .before .before .if2 .left), le-leb _ _ (c .before .if3 .left), le-leb _ _ (c .if4 .left))
 
-pub two-number-spec : {M : Type 1} → statement M
-two-number-spec = tie.close (tie.spec returns returns-2 returns-3 returns-4 returns-5)
+pub refusal-of-two-spec : {M : Type 1} → statement M
+refusal-of-two-spec = tie.close (tie.spec returns returns-2 returns-3 returns-4 returns-5)
