@@ -7,7 +7,7 @@ ghost use lib.ListN.{length, take};
 ghost use Rattle.text.specs.Texts.{Puts};
 ghost use Rattle.sheet_text.specs.Sheets.{sheetText};
 
-pub mod lines;
+mod lines;
 mod points;
 
 // Writes the sheet of a score file, or the refusal of other bytes, and answers how many bytes it
