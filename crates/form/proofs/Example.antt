@@ -7,7 +7,8 @@ use Rattle.numbers.specs.Divisor.{remainders, gcdOf}
 use Rattle.numbers.specs.Bits.{bitsOf}
 use Rattle.tempo.specs.Answers.{allBeats}
 use Rattle.spelling.specs.Words.{digitOf, allDigits, valueFrom, numberBy, someDigits, numberOf, signedOf, denominatorOf, beatOf, behindPoint, decimalTempo, isBits, tempoOf}
-use Rattle.score_writer.specs.Files.{wordBytes, wordsBytes, headerWords, tempoWords, fileOf}
+use Rattle.score.specs.Bytes.{wordBytes, wordsBytes}
+use Rattle.score_writer.specs.Files.{headerWords, tempoWords, fileOf}
 use Rattle.score_writer.specs.Answers.{writeAnswer, writtenInto}
 use Rattle.splits.specs.Splits.{lines, words, body, split, filled, inFront, run, longer, few, same}
 use Rattle.items.specs.Items.{itemOf, keyItem, soleNumber, numberValue, rateItem, beatsItem, tempoItem, tempoBy, tempoValue, pickupItem, pickupBy, beatValue}
