@@ -3,7 +3,7 @@ use mathlib.Core.Bool.{cond}
 use mathlib.Core.List.{List, [], _∷_, _++_}
 use Prim.Native.Nat.{ℕ, zero, suc, _+_, _*_}
 use lib.IntN.{ℤ, pos}
-use lib.ListN.{getD}
+use lib.ListN.{take, getD}
 use Rattle.beats.specs.declared.Beat.{Beat}
 use Rattle.meter.specs.declared.Pickup.{Pickup}
 use Rattle.meter.specs.declared.Pickup.the-variants.{Absent, Present}
@@ -73,6 +73,11 @@ module _ (nums : List ℤ) (dens bits : List ℕ) where
 
 unfoldable pub formOf : Score → List ℕ → List ℤ → List ℕ → List ℕ → List ℕ
 formOf score meter nums dens bits = headText score ++ (meterLines meter (score .meters) ++ tempoLines nums dens bits (score .tempos))
+
+-- the form by the first points of longer lists, as many as the score counts
+abbrev pub formFrom : Score → List ℕ → List ℤ → List ℕ → List ℕ → List ℕ
+formFrom score meter nums dens bits =
+    formOf score (take (3 * score .meters) meter) (take (score .tempos) nums) (take (score .tempos) dens) (take (score .tempos) bits)
 
 -- the form of a score file, and of other bytes the refusal alone
 unfoldable pub formText : List ℕ → List ℕ
