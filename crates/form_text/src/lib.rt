@@ -53,7 +53,7 @@ fn form(
 }
 
 // Writes the text form of a score file, or the refusal of other bytes, and answers how many bytes it
-// has. (The second promise is what a part of the output asks for.)
+// has. The second promise lets a caller cut the output to that many bytes.
 pub fn form_of(file: &[u8], out: &mut [u8; 65536]) -> usize
     ensures { λ r. ⌜ Puts 0 (formText (now (file .entry))) (now (out .entry)) r (now (out .exit)) ⌝ }
     ensures { λ r. ⌜ (r ≤ length (now (out .exit))) × (r ≡ length (take r (now (out .exit)))) ⌝ }
