@@ -13,8 +13,8 @@ mod lines;
 mod points;
 
 // Writes the answer for a score file and the text of a beat, or the refusal of other bytes (13) or
-// of another word (1), and answers how many bytes it has. (The second promise is what a part of the
-// output asks for.)
+// of another word (1), and answers how many bytes it has. The second promise lets a caller cut the
+// output to that many bytes.
 pub fn count_of(file: &[u8], word: &[u8], out: &mut [u8; 1024]) -> usize
     ensures { λ r. ⌜ Puts 0 (countText (now (file .entry)) (now (word .entry))) (now (out .entry)) r (now (out .exit)) ⌝ }
     ensures { λ r. ⌜ (r ≤ length (now (out .exit))) × (r ≡ length (take r (now (out .exit)))) ⌝ }

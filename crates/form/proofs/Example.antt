@@ -6,8 +6,9 @@ use lib.Ieee.{span, climb, size, odd, units, round, div, ofInt, toBits}
 use Rattle.numbers.specs.Divisor.{remainders, gcdOf}
 use Rattle.numbers.specs.Bits.{bitsOf}
 use Rattle.tempo.specs.Answers.{allBeats}
-use Rattle.spelling.specs.Words.{digitOf, allDigits, valueFrom, numberBy, someDigits, numberOf, signedOf, denominatorOf, beatOf, behindPoint, decimalTempo, isBits, tempoOf}
-use Rattle.score_writer.specs.Files.{wordBytes, wordsBytes, headerWords, tempoWords, fileOf}
+use Rattle.spelling.specs.Words.{digitOf, allDigits, valueFrom, numberBy, someDigits, numberOf, numeratorOf, denominatorOf, beatOf, behindPoint, decimalTempo, isBits, tempoOf}
+use Rattle.score.specs.Bytes.{wordBytes, wordsBytes}
+use Rattle.score_writer.specs.Files.{headerWords, tempoWords, fileOf}
 use Rattle.score_writer.specs.Answers.{writeAnswer, writtenInto}
 use Rattle.splits.specs.Splits.{lines, words, body, split, filled, inFront, run, longer, few, same}
 use Rattle.items.specs.Items.{itemOf, keyItem, soleNumber, numberValue, rateItem, beatsItem, tempoItem, tempoBy, tempoValue, pickupItem, pickupBy, beatValue}
@@ -45,7 +46,7 @@ file =
     unfold formBytes endBytes fileBytes in
     unfold lines words body split filled inFront run longer few same in
     unfold itemOf keyItem soleNumber numberValue rateItem beatsItem tempoItem tempoBy tempoValue pickupItem pickupBy beatValue in
-    unfold numberOf someDigits numberBy valueFrom allDigits digitOf signedOf denominatorOf beatOf tempoOf isBits decimalTempo behindPoint gcdOf remainders in
+    unfold numberOf someDigits numberBy valueFrom allDigits digitOf numeratorOf denominatorOf beatOf tempoOf isBits decimalTempo behindPoint gcdOf remainders in
     unfold span climb size odd units round div ofInt toBits in
     unfold taken takenBy keeping onward walk start outcome empty unlessSaid unlessPickup withRate withBeats withTempo withPickup needed finished in
     unfold writeAnswer writtenInto fileOf headerWords tempoWords wordsBytes wordBytes bitsOf allBeats in

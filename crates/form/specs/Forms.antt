@@ -6,6 +6,7 @@ use lib.IntN.{ℤ}
 use lib.ListN.{length, take}
 use Rattle.numbers.specs.Answers.{Answer, accepted, refused}
 use Rattle.beats.specs.declared.Beat.{Beat}
+use Rattle.score.specs.declared.Score.{Score}
 use Rattle.score_writer.specs.Answers.{writeAnswer, writtenInto}
 use Rattle.splits.specs.Splits.{lines, words, body}
 use Rattle.items.specs.declared.Reason.{Reason}
@@ -90,7 +91,7 @@ unfoldable pub onward : ℕ → (Sofar → Outcome) → Taken → Outcome
 onward line go (going sofar) = go sofar
 onward line go (halted reason) = wrong line reason
 
--- so many lines are behind
+-- the lines that are left, behind so many that have been read
 unfoldable pub walk : List (List ℕ) → ℕ → Sofar → Outcome
 walk [] behind sofar = done behind sofar
 walk (line ∷ rest) behind sofar = onward (behind + 1) (walk rest (behind + 1)) (taken sofar line)
@@ -122,6 +123,15 @@ unfoldable pub fileBytes : Sofar → Finish → List ℕ → List ℕ
 fileBytes sofar (F.Wrong reason) old = old
 fileBytes sofar (F.Whole score) old = writtenInto score (sofar .meter) (sofar .nums) (sofar .dens) (sofar .bits) old
 
+-- what a call does that writes the file of a score: its answer, a refusal told at a line, and the bytes that were `old` afterwards
+abbrev pub WrittenAt : ℕ → Score → List ℕ → List ℤ → List ℕ → List ℕ → List ℕ → FormAnswer → List ℕ → Type 0
+WrittenAt line score meter nums dens bits old answer new =
+    (answer ≡ writtenBy line (writeAnswer score meter nums dens bits)) × (new ≡ writtenInto score meter nums dens bits old)
+
+-- and one that writes the file of what was said, where nothing is missing
+abbrev pub Finished : ℕ → Sofar → Finish → List ℕ → FormAnswer → List ℕ → Type 0
+Finished line sofar finish old answer new = (answer ≡ fileAnswer line sofar finish) × (new ≡ fileBytes sofar finish old)
+
 unfoldable pub endAnswer : Outcome → FormAnswer
 endAnswer (done behind sofar) = fileAnswer (lastLine behind) sofar (finished (sofar .draft))
 endAnswer (wrong line reason) = Wrong line reason
@@ -143,6 +153,10 @@ formBytes text old = endBytes (outcome text) old
 -- a list afterwards: the first elements, as many as the number says, are those before, and new ones are behind them
 abbrev pub Behind : {A : Type 0} → ℕ → List A → List A → List A → Type 0
 Behind n new old out = take (n + length new) out ≡ take n old ++ new
+
+-- the same of a tempo point in three parallel lists
+abbrev pub PointBehind : ℕ → Beat → ℕ → List ℤ → List ℕ → List ℕ → List ℤ → List ℕ → List ℕ → Type 0
+PointBehind n beat bpm nums₀ dens₀ bits₀ nums dens bits = Behind n (beat .num ∷ []) nums₀ nums × Behind n (beat .den ∷ []) dens₀ dens × Behind n (bpm ∷ []) bits₀ bits
 
 -- what was said, where the points stand at the front of longer lists
 unfoldable pub front : Draft → List ℕ → List ℤ → List ℕ → List ℕ → Sofar

@@ -6,9 +6,8 @@ use items::Reason;
 use score::Score;
 use score_writer::WriteAnswer;
 ghost use mathlib.Core.Path.{_≡_};
-ghost use Rattle.score_writer.specs.Answers.{writeAnswer, writtenInto};
 ghost use Rattle.form.specs.Drafts.{finished};
-ghost use Rattle.form.specs.Forms.{lastLine, writtenBy, fileAnswer, fileBytes, front};
+ghost use Rattle.form.specs.Forms.{lastLine, WrittenAt, Finished, front};
 
 pub enum Finish {
     Whole(Score),
@@ -58,7 +57,7 @@ fn written(
     bpms: &[u32; 1024],
     out: &mut [u8; 19504],
 ) -> FormAnswer
-    ensures { λ r. ⌜ (r ≡ writtenBy line (writeAnswer score (now (meter .entry)) (now (nums .entry)) (now (dens .entry)) (now (bpms .entry)))) × (now (out .exit) ≡ writtenInto score (now (meter .entry)) (now (nums .entry)) (now (dens .entry)) (now (bpms .entry)) (now (out .entry))) ⌝ }
+    ensures { λ r. ⌜ WrittenAt line score (now (meter .entry)) (now (nums .entry)) (now (dens .entry)) (now (bpms .entry)) (now (out .entry)) r (now (out .exit)) ⌝ }
 {
     match score_writer::write_score(score, meter, nums, dens, bpms, out) {
         WriteAnswer::Written(size) => FormAnswer::File(size),
@@ -77,7 +76,7 @@ pub fn file(
     bpms: &[u32; 1024],
     out: &mut [u8; 19504],
 ) -> FormAnswer
-    ensures { λ r. ⌜ (r ≡ fileAnswer (lastLine lines) (front draft (now (meter .entry)) (now (nums .entry)) (now (dens .entry)) (now (bpms .entry))) (finished draft)) × (now (out .exit) ≡ fileBytes (front draft (now (meter .entry)) (now (nums .entry)) (now (dens .entry)) (now (bpms .entry))) (finished draft) (now (out .entry))) ⌝ }
+    ensures { λ r. ⌜ Finished (lastLine lines) (front draft (now (meter .entry)) (now (nums .entry)) (now (dens .entry)) (now (bpms .entry))) (finished draft) (now (out .entry)) r (now (out .exit)) ⌝ }
 {
     let line = last_line(lines);
     match score_of(draft) {

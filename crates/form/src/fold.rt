@@ -11,7 +11,7 @@ ghost use mathlib.Core.Path.{_≡_};
 ghost use mathlib.Core.List.{[], _∷_};
 ghost use Prim.Native.Nat.{_*_, _<_};
 ghost use Rattle.form.specs.Drafts.{withMeter, withPoint};
-ghost use Rattle.form.specs.Forms.{Behind, taken, outcome, front, readStep, readWalk};
+ghost use Rattle.form.specs.Forms.{Behind, PointBehind, taken, outcome, front, readStep, readWalk};
 
 pub enum Walk {
     // what all lines say, and how many there are
@@ -37,7 +37,7 @@ fn tempo_step(
     dens: &mut [u32; 1024],
     bpms: &mut [u32; 1024],
 ) -> Step
-    ensures { λ r. ⌜ (r ≡ withPoint draft) × (draft .tempos < 1024 → Behind (draft .tempos) (beat .num ∷ []) (now (nums .entry)) (now (nums .exit)) × Behind (draft .tempos) (beat .den ∷ []) (now (dens .entry)) (now (dens .exit)) × Behind (draft .tempos) (bits ∷ []) (now (bpms .entry)) (now (bpms .exit))) ⌝ }
+    ensures { λ r. ⌜ (r ≡ withPoint draft) × (draft .tempos < 1024 → PointBehind (draft .tempos) beat bits (now (nums .entry)) (now (dens .entry)) (now (bpms .entry)) (now (nums .exit)) (now (dens .exit)) (now (bpms .exit))) ⌝ }
 {
     if draft.tempos >= 1024 {
         return Step::Wrong(Reason::ManyTempos);

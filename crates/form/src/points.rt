@@ -3,7 +3,7 @@ use beats::Beat;
 ghost use mathlib.Core.List.{[], _∷_};
 ghost use Prim.Native.Nat.{_+_, _*_, _≤_, _<_};
 ghost use lib.ListN.{length};
-ghost use Rattle.form.specs.Forms.{Behind};
+ghost use Rattle.form.specs.Forms.{Behind, PointBehind};
 
 // A meter point behind so many.
 pub fn meter(out: &mut [u32], count: usize, bar: u32, num: u32, den: u32)
@@ -26,7 +26,7 @@ pub fn tempo(
     bits: u32,
 )
     requires { ⌜ (count < length (now nums)) × (count < length (now dens)) × (count < length (now bpms)) ⌝ }
-    ensures { λ _. ⌜ Behind count (beat .num ∷ []) (now (nums .entry)) (now (nums .exit)) × Behind count (beat .den ∷ []) (now (dens .entry)) (now (dens .exit)) × Behind count (bits ∷ []) (now (bpms .entry)) (now (bpms .exit)) ⌝ }
+    ensures { λ _. ⌜ PointBehind count beat bits (now (nums .entry)) (now (dens .entry)) (now (bpms .entry)) (now (nums .exit)) (now (dens .exit)) (now (bpms .exit)) ⌝ }
 {
     let num = beat.num;
     let den = beat.den;

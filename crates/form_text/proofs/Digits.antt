@@ -7,7 +7,7 @@ use native.Mathlib.Omega.{arith}
 use borrow.Author.Tests.{lt-ltb, le-ltb, ltb-true, eq-eqb, ne-eqb, eqb-true}
 use lib.Dec.{ltb, eqb}
 use lib.IntN.{pos}
-use lib.Ieee.{Float, binary32, binary64, ofBits, toBits, div, mul, ofInt, toUnsigned}
+use lib.Ieee.{Float, binary32, binary64, ofBits, mul, ofInt, toUnsigned}
 use lib.ListN.{length, length-append}
 use Rattle.numbers.proofs.Laws.{and-left, and-right}
 use Rattle.rounding.specs.Floats.{roundAway}
@@ -33,15 +33,9 @@ module _ (bits places : ℕ) {digits : ℕ} (e : digits ≡ digitsFor bits place
   unfolding readsBack
   not-back h = simp (le-ltb (digitsFor bits places) 16777216 (omega arith))
 
-  pub is-back : digits < 16777216 → {word scale : ℕ} {over under : Float} → over ≡ ofInt binary32 (pos digits) → scale ≡ 10 ^ places → under ≡ ofInt binary32 (pos scale)
-      → word ≡ toBits binary32 (div binary32 over under) → eqb word bits ≡ readsBack bits places
+  pub is-back : digits < 16777216 → {word : ℕ} → word ≡ quotient digits places → eqb word bits ≡ readsBack bits places
   unfolding readsBack
-  is-back h {word} {scale} {over} {under} o s u w =
-      let word-of : Float → Float → ℕ = λ x y. toBits binary32 (div binary32 x y) in
-      let x = o ∙ ap (λ (k : ℕ). ofInt binary32 (pos k)) e in
-      let y = u ∙ ap (λ (k : ℕ). ofInt binary32 (pos k)) s in
-      let all = w ∙ ap (λ (z : Float). word-of z under) x ∙ ap (word-of (ofInt binary32 (pos (digitsFor bits places)))) y in
-      simp (lt-ltb (digitsFor bits places) 16777216 (omega arith)) (ap (λ (k : ℕ). eqb k bits) all)
+  is-back h w = simp (lt-ltb (digitsFor bits places) 16777216 (omega arith)) (ap (λ (k : ℕ). eqb k bits) (w ∙ ap (λ (k : ℕ). quotient k places) e))
 
 module _ (bits places : ℕ) (e : readsBack bits places ≡ true) where
   pub back-small : digitsFor bits places < 16777216

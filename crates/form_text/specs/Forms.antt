@@ -3,7 +3,7 @@ use mathlib.Core.Bool.{cond}
 use mathlib.Core.List.{List, [], _∷_, _++_}
 use Prim.Native.Nat.{ℕ, zero, suc, _+_, _*_}
 use lib.IntN.{ℤ, pos}
-use lib.ListN.{getD}
+use lib.ListN.{take, getD}
 use Rattle.beats.specs.declared.Beat.{Beat}
 use Rattle.meter.specs.declared.Pickup.{Pickup}
 use Rattle.meter.specs.declared.Pickup.the-variants.{Absent, Present}
@@ -11,24 +11,25 @@ use Rattle.score.specs.declared.Score.{Score}
 use Rattle.score.specs.Format.{isScore, scoreOf, meterWords, tempoNums, tempoDens, tempoBits}
 use Rattle.score.specs.Answers.{refusalText}
 use Rattle.text.specs.Texts.{decimal, beatText}
+use Rattle.spelling.specs.Keys.{rateKey, beatsKey, tempoKey, pickupKey, meterKey}
 use Rattle.form_text.specs.TempoTexts.{tempoText}
 
--- ---- the words that begin a line
+-- ---- the words that begin a line, and the blank behind them
 
 abbrev pub rateWord : List ℕ
-rateWord = 114 ∷ 97 ∷ 116 ∷ 101 ∷ 32 ∷ []
+rateWord = rateKey ++ (32 ∷ [])
 
 abbrev pub beatsWord : List ℕ
-beatsWord = 98 ∷ 101 ∷ 97 ∷ 116 ∷ 115 ∷ 32 ∷ []
+beatsWord = beatsKey ++ (32 ∷ [])
 
 abbrev pub tempoWord : List ℕ
-tempoWord = 116 ∷ 101 ∷ 109 ∷ 112 ∷ 111 ∷ 32 ∷ []
+tempoWord = tempoKey ++ (32 ∷ [])
 
 abbrev pub pickupWord : List ℕ
-pickupWord = 112 ∷ 105 ∷ 99 ∷ 107 ∷ 117 ∷ 112 ∷ 32 ∷ []
+pickupWord = pickupKey ++ (32 ∷ [])
 
 abbrev pub meterWord : List ℕ
-meterWord = 109 ∷ 101 ∷ 116 ∷ 101 ∷ 114 ∷ 32 ∷ []
+meterWord = meterKey ++ (32 ∷ [])
 
 -- ---- lines. (10 is a line end, 32 a blank, 47 a slash.)
 
@@ -72,6 +73,11 @@ module _ (nums : List ℤ) (dens bits : List ℕ) where
 
 unfoldable pub formOf : Score → List ℕ → List ℤ → List ℕ → List ℕ → List ℕ
 formOf score meter nums dens bits = headText score ++ (meterLines meter (score .meters) ++ tempoLines nums dens bits (score .tempos))
+
+-- the form by the first points of longer lists, as many as the score counts
+abbrev pub formFrom : Score → List ℕ → List ℤ → List ℕ → List ℕ → List ℕ
+formFrom score meter nums dens bits =
+    formOf score (take (3 * score .meters) meter) (take (score .tempos) nums) (take (score .tempos) dens) (take (score .tempos) bits)
 
 -- the form of a score file, and of other bytes the refusal alone
 unfoldable pub formText : List ℕ → List ℕ

@@ -3,10 +3,10 @@ use score::Score;
 use score::ScoreAnswer;
 use text::put;
 ghost use mathlib.Core.Path.{_≡_};
-ghost use Prim.Native.Nat.{_*_, _≤_};
+ghost use Prim.Native.Nat.{_≤_};
 ghost use lib.ListN.{length, take};
 ghost use Rattle.text.specs.Texts.{Puts};
-ghost use Rattle.form_text.specs.Forms.{formOf, formText};
+ghost use Rattle.form_text.specs.Forms.{formFrom, formText};
 
 mod lines;
 mod tempos;
@@ -21,7 +21,7 @@ fn cut(
     bpms: &[u32],
 ) -> usize
     requires { ⌜ (65374 ≤ length (now out)) × (score .meters ≤ 256) × (score .tempos ≤ 1024) × (768 ≤ length (now meter)) × (1024 ≤ length (now nums)) × (1024 ≤ length (now dens)) × (1024 ≤ length (now bpms)) ⌝ }
-    ensures { λ r. ⌜ Puts 0 (formOf score (take (3 * score .meters) (now (meter .entry))) (take (score .tempos) (now (nums .entry))) (take (score .tempos) (now (dens .entry))) (take (score .tempos) (now (bpms .entry)))) (now (out .entry)) r (now (out .exit)) ⌝ }
+    ensures { λ r. ⌜ Puts 0 (formFrom score (now (meter .entry)) (now (nums .entry)) (now (dens .entry)) (now (bpms .entry))) (now (out .entry)) r (now (out .exit)) ⌝ }
     ensures { λ r. ⌜ r ≤ 65374 ⌝ }
 {
     let words = 3 * score.meters;
@@ -46,14 +46,14 @@ fn form(
     bpms: &[u32; 1024],
 ) -> usize
     requires { ⌜ (65374 ≤ length (now out)) × (score .meters ≤ 256) × (score .tempos ≤ 1024) ⌝ }
-    ensures { λ r. ⌜ Puts 0 (formOf score (take (3 * score .meters) (now (meter .entry))) (take (score .tempos) (now (nums .entry))) (take (score .tempos) (now (dens .entry))) (take (score .tempos) (now (bpms .entry)))) (now (out .entry)) r (now (out .exit)) ⌝ }
+    ensures { λ r. ⌜ Puts 0 (formFrom score (now (meter .entry)) (now (nums .entry)) (now (dens .entry)) (now (bpms .entry))) (now (out .entry)) r (now (out .exit)) ⌝ }
     ensures { λ r. ⌜ r ≤ 65374 ⌝ }
 {
     cut(out, score, meter, nums, dens, bpms)
 }
 
 // Writes the text form of a score file, or the refusal of other bytes, and answers how many bytes it
-// has. (The second promise is what a part of the output asks for.)
+// has. The second promise lets a caller cut the output to that many bytes.
 pub fn form_of(file: &[u8], out: &mut [u8; 65536]) -> usize
     ensures { λ r. ⌜ Puts 0 (formText (now (file .entry))) (now (out .entry)) r (now (out .exit)) ⌝ }
     ensures { λ r. ⌜ (r ≤ length (now (out .exit))) × (r ≡ length (take r (now (out .exit)))) ⌝ }

@@ -42,9 +42,7 @@ fn reads_back(bits: u32, places: u32) -> bool
     if digits >= 16777216 {
         return false;
     }
-    let over = std::num::nearest_u32_to_f32(digits as u32);
-    let under = std::num::nearest_u32_to_f32(ten(places));
-    rounding::f32_word(over / under) == bits
+    spelling::over_ten(digits as u32, places as usize) == bits
 }
 
 // The first number of places that reads back, and 5 where none does.

@@ -16,7 +16,8 @@ use Rattle.spelling.specs.declared.TempoWord.{TempoWord}
 use Rattle.spelling.specs.declared.TempoWord.the-variants as T
 use Rattle.spelling.specs.declared.fractions.Signed.{Signed}
 use Rattle.spelling.specs.declared.fractions.Signed.the-variants as S
-use Rattle.spelling.specs.Words.{numberOf, signedOf, denominatorOf, fractionOf, beatOf, tempoOf}
+use Rattle.spelling.specs.Keys.{rateKey, beatsKey, tempoKey, pickupKey, meterKey}
+use Rattle.spelling.specs.Words.{numberOf, numeratorOf, denominatorOf, fractionOf, beatOf, tempoOf}
 use Rattle.splits.specs.Splits.{other, run, part, Few, single, double, neither, few, same}
 use Rattle.items.specs.declared.Reason.{Reason}
 use Rattle.items.specs.declared.Reason.the-variants.{Unknown, Words, NotNumber, NotBeat, NotLowest, NotTempo, NotMeter, Unwritten}
@@ -27,7 +28,7 @@ use Rattle.items.specs.declared.values.BeatValue.the-variants as At
 use Rattle.items.specs.declared.Item.{Item}
 use Rattle.items.specs.declared.Item.the-variants as I
 use Rattle.items.specs.Items.{numberValue, tempoValue, beatValue, soleNumber, rateItem, beatsItem, tempoBy, pointBy, pointItem, tempoItem, pickupBy, pickupItem}
-use Rattle.items.specs.Items.{meterBy, slashOf, meterOver, barBy, meterPoint, meterItem, rateKey, beatsKey, tempoKey, pickupKey, meterKey, keyItem, itemOf}
+use Rattle.items.specs.Items.{meterBy, slashOf, meterOver, barBy, meterPoint, meterItem, keyItem, itemOf}
 
 -- a reason that a line can have
 abbrev pub Told : Reason → Type 0
@@ -102,7 +103,7 @@ fraction-fine S.NotNumber den = omega arith
 
 beat-fine : (word : List ℕ) → FineBeat (beatValue (beatOf word))
 unfolding beatOf beatValue
-beat-fine word = go (beatOf word) (fraction-fine (signedOf (take (run (other 47) word) word)) (denominatorOf word (run (other 47) word)))
+beat-fine word = go (beatOf word) (fraction-fine (numeratorOf (take (run (other 47) word) word)) (denominatorOf word (run (other 47) word)))
   where
     go : (w : BeatWord) → FineWord w → FineBeat (beatValue w)
     go (B.Read beat) h = h

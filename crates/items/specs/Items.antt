@@ -11,6 +11,7 @@ use Rattle.spelling.specs.declared.BeatWord.the-variants as B
 use Rattle.spelling.specs.declared.TempoWord.{TempoWord}
 use Rattle.spelling.specs.declared.TempoWord.the-variants as T
 use Rattle.spelling.specs.Words.{numberOf, beatOf, tempoOf}
+use Rattle.spelling.specs.Keys.{rateKey, beatsKey, tempoKey, pickupKey, meterKey}
 use Rattle.splits.specs.Splits.{other, past, part, Few, single, double, neither, few, same}
 use Rattle.items.specs.declared.Reason.the-variants.{Unknown, Words, NotNumber, NotBeat, NotLowest, NotTempo, NotMeter}
 use Rattle.items.specs.declared.values.Value.{Value}
@@ -111,21 +112,6 @@ meterItem (single word) = I.Wrong Words
 meterItem neither = I.Wrong Words
 
 -- ---- the keys
-
-abbrev pub rateKey : List ℕ
-rateKey = 114 ∷ 97 ∷ 116 ∷ 101 ∷ []
-
-abbrev pub beatsKey : List ℕ
-beatsKey = 98 ∷ 101 ∷ 97 ∷ 116 ∷ 115 ∷ []
-
-abbrev pub tempoKey : List ℕ
-tempoKey = 116 ∷ 101 ∷ 109 ∷ 112 ∷ 111 ∷ []
-
-abbrev pub pickupKey : List ℕ
-pickupKey = 112 ∷ 105 ∷ 99 ∷ 107 ∷ 117 ∷ 112 ∷ []
-
-abbrev pub meterKey : List ℕ
-meterKey = 109 ∷ 101 ∷ 116 ∷ 101 ∷ 114 ∷ []
 
 unfoldable pub keyItem : List ℕ → Few → Item
 keyItem key behind =

@@ -20,7 +20,7 @@ use Rattle.score.specs.declared.ScoreAnswer.the-variants.{Read, BadFile}
 use Rattle.score.specs.Bytes.{wordAt, numberAt}
 use Rattle.score.specs.Format.{tempoOffset, tempoCount, meterCount, isScore, scoreOf, meterWords, tempoNums, tempoDens, tempoBits}
 use Rattle.score.specs.Format.{laidOut, pickupGood, beatsGood, pickupOf, pickupDen, pickupNum, pickupLow, pickupHigh}
-use Rattle.score.specs.Answers.{scoreAnswer, after}
+use Rattle.score.specs.Answers.{scoreAnswer, after, Leaves}
 use Rattle.score.specs.Readings.{readScore}
 use Rattle.score.proofs.Places.{each-length}
 use Rattle.score.proofs.Whole.{accepted-is, refused-is, score-laid}
@@ -120,14 +120,13 @@ module _ (b : List ℕ) {r : ScoreAnswer} {s : Score} (is : r ≡ Read s) (e : r
   pickup-sound = rw (says b is e) (file-pickup b (good-file b is e))
 
   -- what is made of it and of the fronts of the lists is made of what the file says
-  pub made-of-file : {A : Type 0} (make : Score → List ℕ → List ℤ → List ℕ → List ℕ → A) (none : A) (meter₀ : List ℕ) (nums₀ : List ℤ) (dens₀ bits₀ : List ℕ)
-      {meter : List ℕ} {nums : List ℤ} {dens bits : List ℕ} → meter ≡ after b (meterWords b) meter₀ → nums ≡ after b (tempoNums b) nums₀
-      → dens ≡ after b (tempoDens b) dens₀ → bits ≡ after b (tempoBits b) bits₀
+  pub made-of-file : {A : Type 0} (make : Score → List ℕ → List ℤ → List ℕ → List ℕ → A) (none : A)
+      {meter₀ meter : List ℕ} {nums₀ nums : List ℤ} {dens₀ dens bits₀ bits : List ℕ} → Leaves b meter₀ meter nums₀ nums dens₀ dens bits₀ bits
       → make s (take (3 * s .meters) meter) (take (s .tempos) nums) (take (s .tempos) dens) (take (s .tempos) bits)
       ≡ cond (isScore b) (make (scoreOf b) (meterWords b) (tempoNums b) (tempoDens b) (tempoBits b)) none
-  made-of-file make none meter₀ nums₀ dens₀ bits₀ em en ed eb =
+  made-of-file make none {meter₀} {meter} {nums₀} {nums} {dens₀} {dens} {bits₀} {bits} l =
       let g = good-file b is e in
-      rw (says b is e, em, en, ed, eb, meter-front b g meter₀, nums-front b g nums₀, dens-front b g dens₀, bits-front b g bits₀, g)
+      rw (says b is e, l .meter-is, l .nums-is, l .dens-is, l .bits-is, meter-front b g meter₀, nums-front b g nums₀, dens-front b g dens₀, bits-front b g bits₀, g)
 
 -- ---- a longer input
 

@@ -1,9 +1,11 @@
--- Words and numbers in a list of bytes, the lowest byte first. A byte past the end counts as 0.
-use Prim.Native.Nat.{ℕ, zero, suc, _+_, _*_}
-use mathlib.Core.List.{List, [], _∷_}
+-- Words and numbers in a list of bytes, the lowest byte first, and words as bytes. A byte past the end counts as 0.
+use Prim.Native.Nat.{ℕ, zero, suc, _+_, _*_, _/_, _%_}
+use mathlib.Core.List.{List, [], _∷_, _++_}
 use lib.IntN.{ℤ}
 use lib.ListN.{getD}
 use Rattle.numbers.specs.Bits.{signedOf}
+
+-- ---- read
 
 -- the 32-bit word of the four bytes from a place on
 unfoldable pub wordAt : List ℕ → ℕ → ℕ
@@ -18,3 +20,12 @@ module _ {A : Type 0} (read : ℕ → A) where
   unfoldable pub each : ℕ → ℕ → ℕ → List A
   each place step zero = []
   each place step (suc count) = read place ∷ each (place + step) step count
+
+-- ---- written
+
+unfoldable pub wordBytes : ℕ → List ℕ
+wordBytes word = (word % 256) ∷ (word / 256 % 256) ∷ (word / 65536 % 256) ∷ (word / 16777216 % 256) ∷ []
+
+unfoldable pub wordsBytes : List ℕ → List ℕ
+wordsBytes [] = []
+wordsBytes (word ∷ words) = wordBytes word ++ wordsBytes words

@@ -58,11 +58,18 @@ module _ (bytes : List ℕ) where
 
 -- ---- when it is one
 
+-- where the tempo points begin, and where they end, for so many points: a header of 48 bytes, 12 for a meter point, 16 for a tempo point
+abbrev pub tempoOffsetFor : ℕ → ℕ
+tempoOffsetFor meters = 48 + 12 * meters
+
+abbrev pub totalFor : ℕ → ℕ → ℕ
+totalFor meters tempos = 48 + 12 * meters + 16 * tempos
+
 -- edition 1; at most 256 meter points of 12 bytes, from byte 48 on; at most 1,024 tempo points of 16 bytes right behind them; the total is where they end, and the real length
 abbrev pub laidOutBy : ℕ → ℕ → ℕ → ℕ → ℕ → ℕ → ℕ → Bool
 laidOutBy edition meters meterOffset tempos tempoOffset total long =
-    eqb edition 1 && (leb meters 256 && (eqb meterOffset 48 && (leb tempos 1024 && (eqb tempoOffset (48 + 12 * meters)
-    && (eqb total (48 + 12 * meters + 16 * tempos) && eqb long total)))))
+    eqb edition 1 && (leb meters 256 && (eqb meterOffset 48 && (leb tempos 1024 && (eqb tempoOffset (tempoOffsetFor meters)
+    && (eqb total (totalFor meters tempos) && eqb long total)))))
 
 unfoldable pub laidOut : List ℕ → Bool
 laidOut bytes = laidOutBy (edition bytes) (meterCount bytes) (meterOffset bytes) (tempoCount bytes) (tempoOffset bytes) (total bytes) (length bytes)

@@ -2,8 +2,8 @@
 // the largest file's points, so that a bad file is the only refusal.
 use meter::Pickup;
 ghost use mathlib.Core.Path.{_≡_};
-ghost use Rattle.score.specs.Format.{isScore, meterWords, tempoNums, tempoDens, tempoBits};
-ghost use Rattle.score.specs.Answers.{scoreAnswer, after};
+ghost use Rattle.score.specs.Format.{isScore};
+ghost use Rattle.score.specs.Answers.{scoreAnswer, Leaves};
 ghost use Rattle.score.specs.Readings.{readScore};
 
 mod file;
@@ -15,7 +15,7 @@ pub const LONGEST: usize = 19504;
 // What a score file says beside the points of its two maps.
 pub struct Score {
     pub rate: u32,
-    // the meter where no meter point is in force
+    // the meter where no meter point is in force: so many beats a bar, over 4; 0 counts as 1
     pub beats: u32,
     // the tempo where there are no tempo points, as the bits of a float
     pub bpm: u32,
@@ -57,7 +57,8 @@ pub fn read_score(
     dens: &mut [u32; 1024],
     bpms: &mut [u32; 1024],
 ) -> ScoreAnswer
-    ensures { λ r. ⌜ (readScore r ≡ scoreAnswer (now (bytes .entry))) × (now (meter .exit) ≡ after (now (bytes .entry)) (meterWords (now (bytes .entry))) (now (meter .entry))) × (now (nums .exit) ≡ after (now (bytes .entry)) (tempoNums (now (bytes .entry))) (now (nums .entry))) × (now (dens .exit) ≡ after (now (bytes .entry)) (tempoDens (now (bytes .entry))) (now (dens .entry))) × (now (bpms .exit) ≡ after (now (bytes .entry)) (tempoBits (now (bytes .entry))) (now (bpms .entry))) ⌝ }
+    ensures { λ r. ⌜ readScore r ≡ scoreAnswer (now (bytes .entry)) ⌝ }
+    ensures { λ _. ⌜ Leaves (now (bytes .entry)) (now (meter .entry)) (now (meter .exit)) (now (nums .entry)) (now (nums .exit)) (now (dens .entry)) (now (dens .exit)) (now (bpms .entry)) (now (bpms .exit)) ⌝ }
 {
     if !is_score(bytes) {
         return ScoreAnswer::BadFile;

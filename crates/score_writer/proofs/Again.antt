@@ -9,9 +9,9 @@ use lib.Dec.{leb, eqb}
 use lib.ListN.{length}
 use lib.Seq.{take-all}
 use Rattle.numbers.proofs.Laws.{both}
-use Rattle.score.specs.Bytes.{wordAt, each}
+use Rattle.score.specs.Bytes.{wordAt, each, wordsBytes}
 use Rattle.score.specs.Format.{isScore, laidOut, pickupGood, scoreOf, meterWords, tempoNums, tempoDens, tempoBits}
-use Rattle.score_writer.specs.Files.{wordsBytes, headerWords, tempoWords, fileOf}
+use Rattle.score_writer.specs.Files.{headerWords, tempoWords, fileOf}
 use Rattle.score_writer.specs.Promise.{AllBelow, WritesAgain}
 use Rattle.score_writer.proofs.Places.{each-split, bytes-again, tempo-again}
 use Rattle.score_writer.proofs.Headers.{HeaderSaid, header-said, header-again}

@@ -12,9 +12,9 @@ use lib.Seq.{take-at, drop-at, drop-drop}
 use Rattle.numbers.proofs.Laws.{both, bits-fit}
 use Rattle.tempo.specs.Answers.{allBeats}
 use Rattle.score.specs.declared.Score.{Score}
-use Rattle.score.specs.Bytes.{wordAt, numberAt, each}
+use Rattle.score.specs.Bytes.{wordAt, numberAt, each, wordsBytes}
 use Rattle.score.specs.Format.{isScore, pickupOf, pickupGood, tempoOffset, tempoCount, beatsGood, meterWords, tempoNums, tempoDens, tempoBits}
-use Rattle.score_writer.specs.Files.{lowWord, highWord, wordsBytes, headerWords, pickupBeat, pointWords, tempoWords, fileOf}
+use Rattle.score_writer.specs.Files.{lowWord, highWord, headerWords, pickupBeat, pointWords, tempoWords, fileOf}
 use Rattle.score_writer.specs.Promise.{AllBelow, AllInI64, Writable, ReadsBack}
 use Rattle.score_writer.proofs.Putting.{header-length, file-length}
 use Rattle.score_writer.proofs.Places.{word-back, words-back, points-back, good-is}

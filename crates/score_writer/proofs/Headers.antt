@@ -18,8 +18,8 @@ use Rattle.meter.specs.declared.Pickup.the-variants.{Absent, Present}
 use Rattle.meter.specs.Meters.{soundPickup}
 use Rattle.score.specs.declared.Score.{Score}
 use Rattle.score.specs.Bytes.{wordAt, numberAt, each}
-use Rattle.score.specs.Format.{laidOut, pickupGood, pickupOf, scoreOf}
-use Rattle.score_writer.specs.Files.{lowWord, highWord, pickupBeat, tempoOffsetFor, totalFor, headerWords}
+use Rattle.score.specs.Format.{tempoOffsetFor, totalFor, laidOut, pickupGood, pickupOf, scoreOf}
+use Rattle.score_writer.specs.Files.{lowWord, highWord, pickupBeat, headerWords}
 use Rattle.score_writer.specs.Answers.{fewPoints}
 use Rattle.score_writer.specs.Promise.{AllBelow}
 use Rattle.score_writer.proofs.Places.{number-at, low-again, high-again}

@@ -13,9 +13,9 @@ use Rattle.numbers.proofs.Laws.{signed-bits, bits-signed, drop-four}
 use Rattle.numbers.specs.Bits.{signedOf, bitsOf}
 use Rattle.beats.specs.Beats.{isBeat}
 use Rattle.tempo.specs.Answers.{allBeats}
-use Rattle.score.specs.Bytes.{wordAt, numberAt, each}
+use Rattle.score.specs.Bytes.{wordAt, numberAt, each, wordBytes, wordsBytes}
 use Rattle.score.specs.Format.{beatAt, beatsGood}
-use Rattle.score_writer.specs.Files.{wordBytes, wordsBytes, lowWord, highWord, pointWords, tempoWords}
+use Rattle.score_writer.specs.Files.{lowWord, highWord, pointWords, tempoWords}
 use Rattle.score_writer.specs.Promise.{AllBelow, AllInI64}
 use Rattle.score_writer.proofs.Putting.{word-length}
 

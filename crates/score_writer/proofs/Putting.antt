@@ -17,7 +17,8 @@ use Rattle.tempo.specs.declared.MapTest.{MapTest}
 use Rattle.tempo.specs.declared.MapTest.the-variants.{Fine, Uneven, TooLong, NotBeat}
 use Rattle.tempo.specs.Answers.{allBeats, mapTest}
 use Rattle.score.specs.declared.Score.{Score}
-use Rattle.score_writer.specs.Files.{wordBytes, wordsBytes, pickupBeat, headerWords, pointWords, tempoWords, fileOf}
+use Rattle.score.specs.Bytes.{wordBytes, wordsBytes}
+use Rattle.score_writer.specs.Files.{pickupBeat, headerWords, pointWords, tempoWords, fileOf}
 
 -- ---- lengths
 

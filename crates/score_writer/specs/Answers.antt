@@ -1,5 +1,6 @@
 -- Writing a score: refused by 4 (more points than a file may have) and by 1 (a pickup or a tempo point that is no beat), in this order, with nothing changed.
 -- The lists are the first points of the lent arrays, as many as the score counts.
+use mathlib.Core.Path.{_≡_}
 use mathlib.Core.Bool.{Bool, cond, _&&_}
 use mathlib.Core.List.{List, [], _++_}
 use Prim.Native.Nat.{ℕ, _*_}
@@ -32,3 +33,8 @@ module _ (score : Score) (meter : List ℕ) (nums : List ℤ) (dens bits : List 
   -- the bytes that were `old`, afterwards: later bytes stay
   unfoldable pub writtenInto : List ℕ → List ℕ
   writtenInto old = given (λ size. fileFrom ++ drop size old) writeAnswer old
+
+  -- what a call does that is lent the bytes `old`: its answer, and the bytes afterwards
+  pub record Writes (old : List ℕ) (answer : Answer ℕ) (new : List ℕ) : Type 0 where
+    pub answer-is : answer ≡ writeAnswer
+    pub bytes-are : new ≡ writtenInto old

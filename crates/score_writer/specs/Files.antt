@@ -1,21 +1,14 @@
--- The bytes of the file that says a score: a list of 32-bit words, each as four bytes, the lowest first.
+-- The bytes of the file that says a score: a list of 32-bit words, each as four bytes.
 use mathlib.Core.List.{List, [], _∷_, _++_}
-use Prim.Native.Nat.{ℕ, _+_, _*_, _/_, _%_}
+use Prim.Native.Nat.{ℕ, _/_, _%_}
 use lib.IntN.{ℤ, pos}
 use Rattle.numbers.specs.Bits.{bitsOf}
 use Rattle.beats.specs.declared.Beat.{Beat}
 use Rattle.meter.specs.declared.Pickup.{Pickup}
 use Rattle.meter.specs.Meters.{pickupOr}
 use Rattle.score.specs.declared.Score.{Score}
-
--- ---- words as bytes
-
-unfoldable pub wordBytes : ℕ → List ℕ
-wordBytes word = (word % 256) ∷ (word / 256 % 256) ∷ (word / 65536 % 256) ∷ (word / 16777216 % 256) ∷ []
-
-unfoldable pub wordsBytes : List ℕ → List ℕ
-wordsBytes [] = []
-wordsBytes (word ∷ words) = wordBytes word ++ wordsBytes words
+use Rattle.score.specs.Bytes.{wordsBytes}
+use Rattle.score.specs.Format.{tempoOffsetFor, totalFor}
 
 -- ---- numbers as two words
 
@@ -30,13 +23,6 @@ highWord num = bitsOf num / 4294967296
 -- the pickup that the header has, 0/0 where there is none
 abbrev pub pickupBeat : Pickup → Beat
 pickupBeat pickup = pickupOr pickup (record { num = pos 0; den = 0 })
-
--- where the tempo points begin, and where they end, for so many points
-abbrev pub tempoOffsetFor : ℕ → ℕ
-tempoOffsetFor meters = 48 + 12 * meters
-
-abbrev pub totalFor : ℕ → ℕ → ℕ
-totalFor meters tempos = 48 + 12 * meters + 16 * tempos
 
 -- edition 1, rate, beats per bar, bpm bits; pickup denominator, numerator low and high; meter count and offset, tempo count and offset, total bytes
 unfoldable pub headerWords : Score → List ℕ

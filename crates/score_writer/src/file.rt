@@ -8,7 +8,8 @@ ghost use Prim.Native.Nat.{_+_, _*_, _≤_};
 ghost use lib.ListN.{length, take};
 ghost use Rattle.tempo.specs.Answers.{allBeats};
 ghost use Rattle.text.specs.Texts.{Puts};
-ghost use Rattle.score_writer.specs.Files.{wordsBytes, headerWords, fileOf};
+ghost use Rattle.score.specs.Bytes.{wordsBytes};
+ghost use Rattle.score_writer.specs.Files.{headerWords, fileOf};
 ghost use Rattle.score_writer.specs.Answers.{fileFrom};
 
 // Whether the first `count` points are beats.

@@ -1,8 +1,7 @@
 // The score file, written: the mirror of `score::read_score`, from the same lists and the same
 // struct.
 use score::Score;
-ghost use mathlib.Core.Path.{_≡_};
-ghost use Rattle.score_writer.specs.Answers.{writeAnswer, writtenInto};
+ghost use Rattle.score_writer.specs.Answers.{Writes};
 ghost use Rattle.score_writer.specs.Readings.{readWrite};
 
 mod file;
@@ -25,7 +24,7 @@ pub fn write_score(
     bpms: &[u32; 1024],
     out: &mut [u8; 19504],
 ) -> WriteAnswer
-    ensures { λ r. ⌜ (readWrite r ≡ writeAnswer score (now (meter .entry)) (now (nums .entry)) (now (dens .entry)) (now (bpms .entry))) × (now (out .exit) ≡ writtenInto score (now (meter .entry)) (now (nums .entry)) (now (dens .entry)) (now (bpms .entry)) (now (out .entry))) ⌝ }
+    ensures { λ r. ⌜ Writes score (now (meter .entry)) (now (nums .entry)) (now (dens .entry)) (now (bpms .entry)) (now (out .entry)) (readWrite r) (now (out .exit)) ⌝ }
 {
     if score.meters > 256 {
         return WriteAnswer::TooLong;

@@ -4,7 +4,8 @@ ghost use mathlib.Core.Path.{_≡_};
 ghost use Prim.Native.Nat.{_+_, _*_, _≤_};
 ghost use lib.ListN.{length};
 ghost use Rattle.text.specs.Texts.{Puts};
-ghost use Rattle.score_writer.specs.Files.{wordBytes, wordsBytes, pointWords, tempoWords};
+ghost use Rattle.score.specs.Bytes.{wordBytes, wordsBytes};
+ghost use Rattle.score_writer.specs.Files.{pointWords, tempoWords};
 
 pub fn word(out: &mut [u8], place: usize, word: u32) -> usize
     requires { ⌜ place + 4 ≤ length (now out) ⌝ }

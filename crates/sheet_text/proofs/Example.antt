@@ -1,7 +1,7 @@
 -- Document 01's example: the bytes of its twelve words, the bytes of its sheet, and that the one is printed for the other, by computing.
 use mathlib.Core.Path.{_≡_, refl}
 use mathlib.Core.List.{List, [], _∷_}
-use Prim.Native.Nat.{ℕ, _/_, _%_}
+use Prim.Native.Nat.{ℕ}
 use lib.Ieee.{span, climb, size, odd, units, round, mul, div, lt, ofInt, toUnsigned, isNan, ofFields, ofBits}
 use Rattle.numbers.specs.Divisor.{gcdOf, remainders}
 use Rattle.numbers.specs.Bits.{signedOf}
@@ -12,19 +12,13 @@ use Rattle.meter.specs.Meters.{pointsOf, lastAt, lenOf, barLen, nextChange}
 use Rattle.meter.specs.Starts.{afterBars, segments, startOf}
 use Rattle.tempo.specs.Tempos.{tempoPoints}
 use Rattle.timeline.specs.Places.{secondsOf, frameAtBeat, frameAtBar}
-use Rattle.score.specs.Bytes.{wordAt, numberAt, each}
+use Rattle.score.specs.Bytes.{wordAt, numberAt, each, wordBytes, wordsBytes}
 use Rattle.score.specs.Format.{laidOut, pickupGood, beatsGood, isScore, pickupOf, scoreOf, meterWords, tempoNums, tempoDens, tempoBits}
 use Rattle.text.specs.Texts.{digitsBy, decimal, signedText, beatText}
 use Rattle.sheet_text.specs.Sheets.{lineText, linesOf, sheetOf, sheetText}
 
--- words as bytes, the lowest first
-pub bytesOf : List ℕ → List ℕ
-bytesOf [] = []
-bytesOf (word ∷ words) = (word % 256) ∷ (word / 256 % 256) ∷ (word / 65536 % 256) ∷ (word / 16777216) ∷ bytesOf words
-
 pub example : List ℕ
-unfolding bytesOf
-example = bytesOf (1 ∷ 48000 ∷ 4 ∷ 0x42f0_0000 ∷ 1 ∷ 1 ∷ 0 ∷ 0 ∷ 48 ∷ 0 ∷ 48 ∷ 48 ∷ [])
+example = wordsBytes (1 ∷ 48000 ∷ 4 ∷ 0x42f0_0000 ∷ 1 ∷ 1 ∷ 0 ∷ 0 ∷ 48 ∷ 0 ∷ 48 ∷ 48 ∷ [])
 
 -- a line of the sheet to a line
 pub printed : List ℕ
@@ -41,8 +35,8 @@ printed =
 
 pub prints : sheetText example ≡ printed
 prints =
-    unfold sheetText sheetOf linesOf lineText decimal digitsBy signedText beatText example bytesOf printed in
-    unfold wordAt signedOf numberAt each laidOut pickupGood beatsGood isScore pickupOf scoreOf meterWords tempoNums tempoDens tempoBits in
+    unfold sheetText sheetOf linesOf lineText decimal digitsBy signedText beatText example printed in
+    unfold wordBytes wordsBytes wordAt signedOf numberAt each laidOut pickupGood beatsGood isScore pickupOf scoreOf meterWords tempoNums tempoDens tempoBits in
     unfold pointsOf lastAt lenOf barLen nextChange afterBars segments startOf tempoPoints secondsOf frameAtBeat frameAtBar in
     unfold fitted newBeat lowest gcdOf remainders roundAway maximum span climb size odd units round mul div lt ofInt toUnsigned isNan ofFields ofBits in
     refl

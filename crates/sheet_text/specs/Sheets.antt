@@ -1,8 +1,10 @@
 -- The sheet that is printed for a file, byte by byte.
 use mathlib.Core.Bool.{cond}
 use mathlib.Core.List.{List, [], _∷_, _++_}
-use Prim.Native.Nat.{ℕ, zero, suc}
+use Prim.Native.Nat.{ℕ, zero, suc, _*_}
 use lib.Ieee.{binary32, ofBits}
+use lib.IntN.{ℤ}
+use lib.ListN.{take}
 use Rattle.beats.specs.declared.Beat.{Beat}
 use Rattle.meter.specs.declared.MeterPoint.{MeterPoint}
 use Rattle.meter.specs.Meters.{pointsOf}
@@ -44,6 +46,11 @@ module _ (t : Transport) (map : List MeterPoint) (points : List TempoPoint) wher
   -- the header and eight lines
   unfoldable pub sheetOf : List ℕ
   sheetOf = headerText ++ linesOf 8
+
+-- the sheet by the first points of longer lists
+abbrev pub sheetFrom : Transport → ℕ → ℕ → List ℕ → List ℤ → List ℕ → List ℕ → List ℕ
+sheetFrom t meters tempos meter nums dens bits =
+    sheetOf t (pointsOf (take (3 * meters) meter)) (tempoPoints (take tempos nums) (take tempos dens) (take tempos bits))
 
 -- ---- from a file
 

@@ -7,11 +7,11 @@ ghost use lib.ListN.{length, take};
 ghost use Rattle.text.specs.Texts.{Puts};
 ghost use Rattle.sheet_text.specs.Sheets.{sheetText};
 
-pub mod lines;
+mod lines;
 mod points;
 
 // Writes the sheet of a score file, or the refusal of other bytes, and answers how many bytes it
-// has. (The second promise is what a part of the output asks for.)
+// has. The second promise lets a caller cut the output to that many bytes.
 pub fn sheet_of(bytes: &[u8], out: &mut [u8; 1024]) -> usize
     ensures { λ r. ⌜ Puts 0 (sheetText (now (bytes .entry))) (now (out .entry)) r (now (out .exit)) ⌝ }
     ensures { λ r. ⌜ (r ≤ length (now (out .exit))) × (r ≡ length (take r (now (out .exit)))) ⌝ }

@@ -5,11 +5,9 @@ use transport::Transport;
 use transport::change;
 ghost use mathlib.Core.Path.{_≡_};
 ghost use Prim.Native.Nat.{_*_, _≤_};
-ghost use lib.ListN.{length, take};
-ghost use Rattle.meter.specs.Meters.{pointsOf};
-ghost use Rattle.tempo.specs.Tempos.{tempoPoints};
+ghost use lib.ListN.{length};
 ghost use Rattle.text.specs.Texts.{Puts};
-ghost use Rattle.sheet_text.specs.Sheets.{clockOf, sheetOf};
+ghost use Rattle.sheet_text.specs.Sheets.{clockOf, sheetFrom};
 
 // The score's clock, which never ends.
 fn clock(score: Score) -> Transport
@@ -32,7 +30,7 @@ fn cut(
     bpms: &[u32],
 ) -> usize
     requires { ⌜ (1024 ≤ length (now out)) × (3 * meters ≤ length (now meter)) × (tempos ≤ length (now nums)) × (tempos ≤ length (now dens)) × (tempos ≤ length (now bpms)) ⌝ }
-    ensures { λ r. ⌜ Puts 0 (sheetOf t (pointsOf (take (3 * meters) (now (meter .entry)))) (tempoPoints (take tempos (now (nums .entry))) (take tempos (now (dens .entry))) (take tempos (now (bpms .entry))))) (now (out .entry)) r (now (out .exit)) ⌝ }
+    ensures { λ r. ⌜ Puts 0 (sheetFrom t meters tempos (now (meter .entry)) (now (nums .entry)) (now (dens .entry)) (now (bpms .entry))) (now (out .entry)) r (now (out .exit)) ⌝ }
     ensures { λ r. ⌜ r ≤ 528 ⌝ }
 {
     lines::sheet(
@@ -54,7 +52,7 @@ pub fn sheet(
     bpms: &[u32; 1024],
 ) -> usize
     requires { ⌜ (1024 ≤ length (now out)) × (score .meters ≤ 256) × (score .tempos ≤ 1024) ⌝ }
-    ensures { λ r. ⌜ Puts 0 (sheetOf (clockOf score) (pointsOf (take (3 * score .meters) (now (meter .entry)))) (tempoPoints (take (score .tempos) (now (nums .entry))) (take (score .tempos) (now (dens .entry))) (take (score .tempos) (now (bpms .entry))))) (now (out .entry)) r (now (out .exit)) ⌝ }
+    ensures { λ r. ⌜ Puts 0 (sheetFrom (clockOf score) (score .meters) (score .tempos) (now (meter .entry)) (now (nums .entry)) (now (dens .entry)) (now (bpms .entry))) (now (out .entry)) r (now (out .exit)) ⌝ }
     ensures { λ r. ⌜ r ≤ 528 ⌝ }
 {
     cut(

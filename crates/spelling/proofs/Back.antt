@@ -23,7 +23,7 @@ use Rattle.spelling.specs.declared.TempoWord.the-variants as T
 use Rattle.spelling.specs.declared.digits.Digits.{Digits}
 use Rattle.spelling.specs.declared.digits.Digits.the-variants.{Number}
 use Rattle.spelling.specs.declared.fractions.Signed.the-variants as S
-use Rattle.spelling.specs.Words.{digitOf, allDigits, numberBy, someDigits, asNumber, numberOf, signedBy, signedOf, denominatorOf, beatOf}
+use Rattle.spelling.specs.Words.{digitOf, allDigits, numberBy, someDigits, asNumber, numberOf, signedBy, numeratorOf, denominatorOf, beatOf}
 use Rattle.spelling.specs.Words.{quotient, tempoBy, pointTempo, decimalTempo, isBits, asBits, tempoOf}
 use Rattle.spelling.proofs.Reading.{before-0, digit-0, behind-f, one-more, none-left, all-digits, some-word, carried, all-append, number-append}
 use Rattle.spelling.proofs.Tempos.{bits-is, by-x, by-bits, by-digits}
@@ -87,7 +87,7 @@ first-not mark (byte ∷ text) e n q = omega (arith, at-mark mark byte text q)
 
 -- ---- signed numbers
 
-pub signed-back : (z : ℤ) → SFits w64 z → signedOf (signedText z) ≡ S.Number z
+pub signed-back : (z : ℤ) → SFits w64 z → numeratorOf (signedText z) ≡ S.Number z
 unfolding signedText
 signed-back (pos n) f =
     let e : min n 9223372036854775807 ≡ n = omega (arith, f .sfits) in
@@ -122,7 +122,7 @@ module _ (b : Beat) (is : isBeat b ≡ true) (f : SFits w64 (b .num)) where
   read-back back e den =
       let num = signedText (b .num) in
       let place : length num ≡ run (other 47) (num ++ back) = omega (arith, run-append (other 47) num back (no-slash (b .num))) in
-      let top = ap signedOf (take-at num back (length num) refl) ∙ signed-back (b .num) f in
+      let top = ap numeratorOf (take-at num back (length num) refl) ∙ signed-back (b .num) f in
       sym (beat-is (num ++ back) (length num) place (S.Number (b .num)) (N.Read (b .den)) (sym top) den)
       ∙ ap (λ (t : Bool). cond t (B.Read b) B.NotBeat) is
 

@@ -18,7 +18,7 @@ use Rattle.spelling.specs.declared.NumberAnswer.the-variants as N
 use Rattle.spelling.specs.declared.BeatWord.the-variants as B
 use Rattle.spelling.specs.declared.fractions.Signed.{Signed}
 use Rattle.spelling.specs.declared.fractions.Signed.the-variants as S
-use Rattle.spelling.specs.Words.{someDigits, asNumber, numberOf, signedBy, signedOf, denominatorOf, fractionBy, fractionOf, beatOf}
+use Rattle.spelling.specs.Words.{someDigits, asNumber, numberOf, signedBy, numeratorOf, denominatorOf, fractionBy, fractionOf, beatOf}
 
 pub number-is : (word : List ℕ) → asNumber (someDigits 4294967295 word) ≡ numberOf word
 unfolding numberOf
@@ -26,18 +26,18 @@ number-is word = refl
 
 -- ---- the numerator
 
-pub no-sign : (word : List ℕ) → length word ≡ 0 → S.NotNumber ≡ signedOf word
-unfolding signedOf someDigits
+pub no-sign : (word : List ℕ) → length word ≡ 0 → S.NotNumber ≡ numeratorOf word
+unfolding numeratorOf someDigits
 no-sign [] e = refl
 no-sign (byte ∷ word) e = let z : ⊥ = omega arith in absurd z
 
 module _ (word : List ℕ) where
-  pub minus : getD word 0 0 ≡ 45 → signedBy true (someDigits (mostOf true) (drop 1 word)) ≡ signedOf word
-  unfolding signedOf
+  pub minus : getD word 0 0 ≡ 45 → signedBy true (someDigits (mostOf true) (drop 1 word)) ≡ numeratorOf word
+  unfolding numeratorOf
   minus e = simp (eq-eqb (getD word 0 0) 45 e)
 
-  pub plus : (getD word 0 0 ≡ 45 → ⊥) → signedBy false (someDigits (mostOf false) word) ≡ signedOf word
-  unfolding signedOf
+  pub plus : (getD word 0 0 ≡ 45 → ⊥) → signedBy false (someDigits (mostOf false) word) ≡ numeratorOf word
+  unfolding numeratorOf
   plus n = simp (ne-eqb (getD word 0 0) 45 n)
 
   -- ---- the denominator
@@ -53,12 +53,12 @@ module _ (word : List ℕ) where
 
   -- ---- both
 
-  pub beat-is : (slash : ℕ) → slash ≡ run (other 47) word → (num : Signed) (den : NumberAnswer) → num ≡ signedOf (take slash word)
+  pub beat-is : (slash : ℕ) → slash ≡ run (other 47) word → (num : Signed) (den : NumberAnswer) → num ≡ numeratorOf (take slash word)
       → den ≡ denominatorOf word slash → fractionOf num den ≡ beatOf word
   unfolding beatOf
   beat-is slash e num den p q =
-      ap (λ (n : Signed). fractionOf n den) p ∙ ap (fractionOf (signedOf (take slash word))) q
-      ∙ ap (λ (place : ℕ). fractionOf (signedOf (take place word)) (denominatorOf word place)) e
+      ap (λ (n : Signed). fractionOf n den) p ∙ ap (fractionOf (numeratorOf (take slash word))) q
+      ∙ ap (λ (place : ℕ). fractionOf (numeratorOf (take place word)) (denominatorOf word place)) e
 
 module _ (num : ℤ) (den : ℕ) (z : ℤ) (e : z ≡ num) where
   beat : ℤ → Beat

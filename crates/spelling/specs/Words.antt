@@ -66,8 +66,8 @@ signedBy negative (Number size) = S.Number (toI64 (withSign negative size))
 signedBy negative NotDigits = S.NotNumber
 
 -- digits, with a minus (byte 45) in front of a number below 0, from -2^63 to 2^63 - 1
-unfoldable pub signedOf : List ℕ → Signed
-signedOf word = cond (eqb (getD word 0 0) 45) (signedBy true (someDigits (mostOf true) (drop 1 word))) (signedBy false (someDigits (mostOf false) word))
+unfoldable pub numeratorOf : List ℕ → Signed
+numeratorOf word = cond (eqb (getD word 0 0) 45) (signedBy true (someDigits (mostOf true) (drop 1 word))) (signedBy false (someDigits (mostOf false) word))
 
 -- the number behind a slash at a place, or 1 where there is none
 unfoldable pub denominatorOf : List ℕ → ℕ → NumberAnswer
@@ -84,7 +84,7 @@ fractionOf S.NotNumber denominator = B.NotNumber
 
 -- `n`, `-n`, `n/d` or `-n/d`: the numerator stands before the first slash (byte 47), the denominator behind it
 unfoldable pub beatOf : List ℕ → BeatWord
-beatOf word = let slash = run (other 47) word in fractionOf (signedOf (take slash word)) (denominatorOf word slash)
+beatOf word = let slash = run (other 47) word in fractionOf (numeratorOf (take slash word)) (denominatorOf word slash)
 
 -- ---- tempos
 

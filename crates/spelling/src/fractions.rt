@@ -8,7 +8,7 @@ use splits::scan;
 ghost use mathlib.Core.Path.{_≡_};
 ghost use Prim.Native.Nat.{_≤_};
 ghost use lib.ListN.{length};
-ghost use Rattle.spelling.specs.Words.{signedOf, signedBy, denominatorOf, fractionBy, beatOf};
+ghost use Rattle.spelling.specs.Words.{numeratorOf, signedBy, denominatorOf, fractionBy, beatOf};
 
 // What a numerator's text says.
 pub enum Signed {
@@ -28,7 +28,7 @@ fn with_sign(negative: bool, size: Digits) -> Signed
 
 // An i64: digits, with a minus in front of a number below 0.
 fn numerator(word: &[u8]) -> Signed
-    ensures { λ r. ⌜ r ≡ signedOf (now (word .entry)) ⌝ }
+    ensures { λ r. ⌜ r ≡ numeratorOf (now (word .entry)) ⌝ }
 {
     if word.len() == 0 {
         return Signed::NotNumber;

@@ -8,6 +8,8 @@ mod digits;
 mod fractions;
 mod points;
 
+pub use points::over_ten;
+
 pub enum NumberAnswer {
     Read(u32),
     NotNumber,

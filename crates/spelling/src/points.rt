@@ -32,8 +32,8 @@ fn ten_to(places: usize) -> f32
     }
 }
 
-// The bits of n / 10^places: one division, of two floats that are exact.
-fn over_ten(n: u32, places: usize) -> u32
+// The bits of n / 10^places: one division, of two floats that are exact where n is below 2^24.
+pub fn over_ten(n: u32, places: usize) -> u32
     requires { ⌜ places ≤ 10 ⌝ }
     ensures { λ r. ⌜ r ≡ quotient n places ⌝ }
 {

@@ -11,7 +11,10 @@ fn reason(fd: i32, reason: Reason) {
             fd,
             b"the beat is not in lowest terms, or its denominator is 0\n",
         ),
-        Reason::NotTempo => io::write_all(fd, b"not a tempo\n"),
+        Reason::NotTempo => io::write_all(
+            fd,
+            b"not a tempo: a decimal whose digits are together below 16777216, at most ten behind the point, or 0x and eight hexadecimal digits\n",
+        ),
         Reason::NotMeter => io::write_all(fd, b"not a meter: n/d\n"),
         Reason::Twice => io::write_all(fd, b"said twice\n"),
         Reason::ManyMeters => io::write_all(fd, b"over 256 meter points\n"),

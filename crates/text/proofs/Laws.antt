@@ -4,5 +4,5 @@
 pub use Rattle.text.proofs.Puts.{same, counted, one, nothing, behind, then, retext}
 -- how long a text is at most
 pub use Rattle.text.proofs.Parts.{digits64, digits32, signed-short, beat-short}
--- no two numbers share a text, and a writer's contract has one answer
-pub use Rattle.text.proofs.Values.{value, decimal-one, only}
+-- a contract of a text put has one answer
+pub use Rattle.text.proofs.Readings.{one-put}

@@ -1,4 +1,4 @@
 pub mod Puts
 pub mod Parts
-pub mod Values
+pub mod Readings
 pub mod Laws

@@ -27,7 +27,7 @@ pub fn bytes(out: &mut [u8], place: usize, text: &[u8]) -> usize
     place + i
 }
 
-// The digits of n / 10, and behind them the last digit.
+// n in decimal digits.
 pub fn decimal(out: &mut [u8], place: usize, n: u64) -> usize
     requires { ⌜ place + length (decimal n) ≤ length (now out) ⌝ }
     ensures { λ r. ⌜ Puts place (decimal n) (now (out .entry)) r (now (out .exit)) ⌝ }

@@ -41,7 +41,7 @@ returns-2 c =
     let bound = c .before .before .before .before in
     let read = bound .before .before .read-score .ensures in
     let s = bound .before .before .before .before .before .before .before .before .before .args in
-    let put = retext (file-is (s .file .now) (s .word .now) (bound .score .given .1) (read .0) _ (read .1)) (c .asked .ensures .0) in
+    let put = retext (file-is (s .file .now) (s .word .now) (bound .score .given .1) (read .0) _ (read .1 .meter-is)) (c .asked .ensures .0) in
     (put, counted put (omega (arith, c .asked .ensures .1)))
 
 pub count-of-spec : {M : Type 1} → statement M

@@ -24,7 +24,7 @@ is-score-requires c κs = search needs
 returns : tie.Need-returns
 returns c =
     let bad = sym (c .before .is-score .ensures) ∙ not-true _ (c .if1 .taken) in
-    (refused-is _ bad, kept _ bad _ _, kept _ bad _ _, kept _ bad _ _, kept _ bad _ _)
+    (refused-is _ bad, record { meter-is = kept _ bad _ _; nums-is = kept _ bad _ _; dens-is = kept _ bad _ _; bits-is = kept _ bad _ _ })
 
 header-requires : tie.Need-header-requires
 header-requires c κs = let l = score-laid _ (good c) in omega (arith, l)
@@ -64,10 +64,12 @@ returns-2 c =
     let is = good file in
     let k = numbers word in (
       accepted-is _ is _ (word .before .header .ensures),
-      meter-filled _ is _ (k .m-is) refl (nums .before .before .copy-words .ensures),
-      nums-filled _ is (k .at-is) (k .t-is) _ (nums .copy-numbers .ensures),
-      dens-filled _ is (k .at-is) (k .t-is) _ (c .before .before .copy-words2 .ensures),
-      bits-filled _ is (k .at-is) (k .t-is) _ (c .copy-words3 .ensures),
+      record {
+        meter-is = meter-filled _ is _ (k .m-is) refl (nums .before .before .copy-words .ensures);
+        nums-is = nums-filled _ is (k .at-is) (k .t-is) _ (nums .copy-numbers .ensures);
+        dens-is = dens-filled _ is (k .at-is) (k .t-is) _ (c .before .before .copy-words2 .ensures);
+        bits-is = bits-filled _ is (k .at-is) (k .t-is) _ (c .copy-words3 .ensures);
+      },
     )
 
 pub read-score-spec : {M : Type 1} → statement M

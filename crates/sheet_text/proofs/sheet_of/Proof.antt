@@ -39,7 +39,7 @@ returns-2 : tie.Need-returns-2
 returns-2 c =
     let bound = c .before .before .before .before .before .before .before in
     let read = bound .before .before .read-score .ensures in
-    let put = retext (sheet-is _ (bound .score .given .1) (read .0) _ _ _ _ (read .1) (read .2) (read .3) (read .4)) (c .sheet .ensures .0) in
+    let put = retext (sheet-is _ (bound .score .given .1) (read .0) (read .1)) (c .sheet .ensures .0) in
     (put, counted put (omega (arith, c .sheet .ensures .1)))
 
 pub sheet-of-spec : {M : Type 1} → statement M

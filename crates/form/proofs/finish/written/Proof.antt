@@ -20,15 +20,15 @@ enum-told-2 c = search needs
 
 returns : tie.Need-returns
 unfolding writtenBy
-returns c = let w = c.before.before.before .write-score in (ap (writtenBy _) (sym (ap readWrite (c.before .size .given .1)) ∙ w .ensures .0), w .ensures .1)
+returns c = let w = c.before.before.before .write-score in (ap (writtenBy _) (sym (ap readWrite (c.before .size .given .1)) ∙ w .ensures .answer-is), w .ensures .bytes-are)
 
 returns-2 : tie.Need-returns-2
 unfolding writtenBy
-returns-2 c = let w = c.before.before .write-score in (ap (writtenBy _) (sym (ap readWrite (c .enum-told .given .1)) ∙ w .ensures .0), w .ensures .1)
+returns-2 c = let w = c.before.before .write-score in (ap (writtenBy _) (sym (ap readWrite (c .enum-told .given .1)) ∙ w .ensures .answer-is), w .ensures .bytes-are)
 
 returns-3 : tie.Need-returns-3
 unfolding writtenBy
-returns-3 c = let w = c.before.before .write-score in (ap (writtenBy _) (sym (ap readWrite (c .enum-told2 .given .1)) ∙ w .ensures .0), w .ensures .1)
+returns-3 c = let w = c.before.before .write-score in (ap (writtenBy _) (sym (ap readWrite (c .enum-told2 .given .1)) ∙ w .ensures .answer-is), w .ensures .bytes-are)
 
 pub written-spec : {M : Type 1} → statement M
 written-spec =

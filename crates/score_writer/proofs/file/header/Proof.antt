@@ -5,7 +5,7 @@ use mir.Syntax.{w64}
 use mir.ValLaws.{toZ-ofZ}
 use Rattle.numbers.specs.Bits.{bitsOf}
 use Rattle.text.proofs.Laws.{retext}
-use Rattle.score_writer.specs.Files.{wordsBytes}
+use Rattle.score.specs.Bytes.{wordsBytes}
 use Rattle.score_writer.proofs.Putting.{header-is}
 use Rattle.score_writer.proofs.file.header.Statement.{statement}
 use Rattle.score_writer.proofs.file.header.Tie as tie

@@ -9,7 +9,8 @@ use mir.Syntax.{w64}
 use mir.ValLaws.{toZ-ofZ}
 use Rattle.text.specs.Texts.{Puts}
 use Rattle.text.proofs.Laws.{retext}
-use Rattle.score_writer.specs.Files.{wordsBytes, tempoWords}
+use Rattle.score.specs.Bytes.{wordsBytes}
+use Rattle.score_writer.specs.Files.{tempoWords}
 use Rattle.score_writer.proofs.Putting.{point-bytes, no-points, next-point, all-points}
 use Rattle.score_writer.proofs.words.points.Statement.{statement}
 use Rattle.score_writer.proofs.words.points.Tie as tie

@@ -7,7 +7,7 @@ use lib.ListN.{length, take, getD}
 use lib.Seq.{take-length}
 use Rattle.text.specs.Texts.{Puts}
 use Rattle.text.proofs.Laws.{retext}
-use Rattle.score_writer.specs.Files.{wordsBytes}
+use Rattle.score.specs.Bytes.{wordsBytes}
 use Rattle.score_writer.proofs.Putting.{word-length, no-words, next-word}
 use Rattle.score_writer.proofs.words.words.Statement.{statement}
 use Rattle.score_writer.proofs.words.words.Tie as tie
