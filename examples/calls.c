@@ -124,9 +124,12 @@ static void advance(void)
     pulleybale_clock clock = looped(350);
     uint32_t report = 0;
 
-    /* past the loop's end it wraps, also in no time */
+    /* past the loop's end it wraps, also by 0 frames */
     CLAIM(pulleybale_advance(&clock, 0, &report) == 0 && report == PULLEYBALE_WRAPPED);
     CLAIM(same(clock, looped(150)));
+    /* a sum past 2^64 - 1 counts as 2^64 - 1, which is 115 frames into a lap */
+    CLAIM(pulleybale_advance(&clock, UINT64_MAX, &report) == 0 && report == PULLEYBALE_WRAPPED);
+    CLAIM(same(clock, looped(215)));
     /* without a loop it stops at the length */
     clock.loop = 0;
     CLAIM(pulleybale_advance(&clock, 2000, &report) == 0 && report == PULLEYBALE_FINISHED);
@@ -172,6 +175,10 @@ static void cues(void)
     CLAIM(pulleybale_cues(&clock, fall, 3, 300, cues, 8, &count, &report) == 11);
     CLAIM(pulleybale_cues(&clock, many, 65537, 300, cues, 8, &count, &report) == 4);
     CLAIM(cues[0] == 5 && count == 3 && report == PULLEYBALE_WRAPPED && same(clock, looped(250)));
+
+    /* 65,536 lines are not too many; all are at frame 0, which the loop does not reach */
+    CLAIM(pulleybale_cues(&clock, many, 65536, 300, cues, 8, &count, &report) == 0 && count == 0);
+    CLAIM(report == PULLEYBALE_WRAPPED && same(clock, looped(150)));
 
     /* a clock that does not play has no cues, however long the run is */
     clock.state = PULLEYBALE_PAUSED;

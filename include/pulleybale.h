@@ -19,7 +19,12 @@
  *
  * Maps. A meter map is words, three a point: bar, numerator, denominator. A tempo map is three
  * lists of one length: the numerators and denominators of its beats, and the bits of its tempos in
- * beats a minute. A map may be empty: then the clock's own meter or tempo is in force.
+ * beats a minute. A beat is a quarter note throughout. A map may be empty: then the clock's own meter
+ * or tempo is in force. The clock's own meter is beats/4: 6 is 6/4, not 6/8. A tempo below 1, or a
+ * NaN, counts as 1, the clock's own and a map point's alike.
+ *
+ * Frames are rounded to the nearest, halves away from zero; below 0 they are 0, and they stop at
+ * 2^64 - 1.
  *
  * Scores that fit. No call refuses a meter map for what its points say. Its bars are where they
  * should be where the score fits: the meter map has at most 256 points, the first at bar 0, each bar
@@ -42,7 +47,11 @@ enum { PULLEYBALE_STOPPED = 0, PULLEYBALE_PLAYING = 1, PULLEYBALE_PAUSED = 2 };
 enum { PULLEYBALE_WRAPPED = 1, PULLEYBALE_FINISHED = 2 };
 
 /* A clock: eleven words of 64 bits, in the caller's own memory. It may be changed between calls;
- * a call refuses by 12 what is no sound clock. */
+ * a call refuses by 12 what is no sound clock.
+ *
+ * With a loop, a clock that plays goes on from loop_start where it comes to loop_end: loop_end itself
+ * does not sound. A position at or past loop_end, as a caller may set, is folded into the loop by the
+ * next call that lets frames go by, also by 0 frames. */
 typedef struct pulleybale_clock {
     uint64_t rate;       /* frames a second, at most 2^32 - 1 */
     uint64_t bpm;        /* the bits of the tempo, a 32-bit float: pulleybale_bits(120.0f) */
@@ -98,23 +107,24 @@ uint32_t pulleybale_frame(const pulleybale_clock *clock, const uint32_t *meter, 
 
 /* The frames of the bars from 0 on: fills all of `lines`, entry k with the frame of bar k. No line
  * is less than the one before where the score fits and the tempo map has at most 1,024 points, their
- * tempos finite and above 0, their beats rising from 0 with numerators of at most 2^53 (where it has
- * none: the clock's own tempo is finite). Other lines may descend, and then pulleybale_cues refuses
- * them by 11. Refuses by 12, 3, 4, 1. */
+ * tempos finite and above 0, their beats rising from 0 with numerators of at most 2^53. Other lines
+ * may descend, and then pulleybale_cues refuses them by 11. Refuses by 12, 3, 4, 1. */
 uint32_t pulleybale_fill_lines(const pulleybale_clock *clock, const uint32_t *meter, size_t meter_len,
                                const int64_t *nums, size_t nums_len, const uint32_t *dens, size_t dens_len,
                                const uint32_t *tempos, size_t tempos_len, uint64_t *lines, size_t lines_len);
 
 /* Lets so many frames go by. Of the clock only position and state are written; *report is 0,
- * PULLEYBALE_WRAPPED or PULLEYBALE_FINISHED. A clock that does not play stays. Refuses by 12. */
+ * PULLEYBALE_WRAPPED or PULLEYBALE_FINISHED. A clock that does not play stays. Position + frames above
+ * 2^64 - 1 is not refused, but counts as 2^64 - 1. Refuses by 12. */
 uint32_t pulleybale_advance(pulleybale_clock *clock, uint64_t frames, uint32_t *report);
 
-/* The same, and writes the bar lines that sound on the way, in playing order: for each two words,
- * its frame counted from the beginning of these frames, and its place in `lines`. *count is how
- * many. `cues_len` is in words; words behind the last cue stay. A run may be cut into blocks of any
- * sizes, one call after the other: where none refuses, the cues are the same (a block's are counted
- * from its own beginning), the clock ends with the same words, and the run's *report has a bit just
- * where some block's has it. Refuses by 12, 4, 11, and where the clock plays by 10, 8. */
+/* The same, but where it refuses by 10, and writes the bar lines that sound on the way, in playing
+ * order: for each two words, its frame counted from the beginning of these frames, and its place in
+ * `lines`. *count is how many. `cues_len` is in words; words behind the last cue stay. A run may be cut
+ * into blocks of any sizes, one call after the other: where none refuses, the cues are the same (a
+ * block's are counted from its own beginning), the clock ends with the same words, and the run's
+ * *report has a bit just where some block's has it. A block needs room for its own cues alone. Refuses
+ * by 12, 4, 11, and where the clock plays by 10, 8. */
 uint32_t pulleybale_cues(pulleybale_clock *clock, const uint64_t *lines, size_t lines_len, uint64_t frames,
                          uint64_t *cues, size_t cues_len, uint64_t *count, uint32_t *report);
 

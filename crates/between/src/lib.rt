@@ -1,4 +1,4 @@
-// The lines of a range, copied: for who may hold no struct with a reference in it, as
+// The lines of a range, copied: for a caller that may hold no struct with a reference in it, as
 // `lines::lines_between` answers.
 use lines::LinesReport;
 ghost use mathlib.Core.Path.{_≡_};

@@ -1,7 +1,6 @@
 -- What crates above may use of a clock's words. They unfold neither the reading nor the writing.
 
--- what words are read as, by the test that they are a clock; those that are none are unsound
-pub use Rattle.clock_words.proofs.Words.{reads, reads-none}
+-- words that are no clock are unsound
 pub use Rattle.clock_words.proofs.Places.{no-clock-unsound}
 -- a clock that is placed is read as the transport where it was placed
 pub use Rattle.clock_words.proofs.Places.{wordsOf, reads-placed}

@@ -13,7 +13,7 @@ use Rattle.transport.specs.declared.playhead.Run.{Run}
 use Rattle.transport.specs.declared.Transport.{Transport}
 use Rattle.transport.specs.Transports.{sound, playing}
 use Rattle.transport.specs.Advances.{advanced}
-use Rattle.transport.specs.Promise.{Composes}
+use Rattle.transport.specs.Promise.{Composes, Reaches}
 use Rattle.transport.proofs.Laws.{stays-put, advanced-plays, composes}
 use Rattle.cues.specs.Sounding.{Cue, cueIf, standsAt, soundedAt, linesEqual, cuesAt, cues, later}
 
@@ -26,7 +26,7 @@ module _ (t : Transport) (time : ℕ) where
   pub sounds-none : playing (t .state) ≡ false → soundedAt t time ≡ none
   sounds-none p = simp p
 
-module _ (t : Transport) (a b : ℕ) (h : t .position + (a + b) ≤ 2 ^ 64 - 1) (is : sound t ≡ true) where
+module _ (t : Transport) (a b : ℕ) (h : Reaches t (a + b)) (is : sound t ≡ true) where
   abbrev after : Transport
   after = advanced t a .transport
 
@@ -38,7 +38,7 @@ module _ (t : Transport) (a b : ℕ) (h : t .position + (a + b) ≤ 2 ^ 64 - 1) 
   sounds-by true e p = simp (whole .finishes, e, advanced-plays t a, p)
   sounds-by false e p = simp (whole .finishes, whole .ends, e, advanced-plays t a, p)
 
-  pub sounds-on : soundedAt t (a + b) ≡ soundedAt after b
+  sounds-on : soundedAt t (a + b) ≡ soundedAt after b
   sounds-on =
       cases (playing (t .state)) (λ p. sounds-playing t (a + b) p ∙ sounds-by (advanced t a .finished) refl p)
       (λ p. sounds-none t (a + b) p ∙ sym (sounds-none after b (ap (λ (run : Run). playing (run .transport .state)) (stays-put t a p) ∙ p)))
@@ -79,7 +79,7 @@ pub silent : (lines : List ℕ) (t : Transport) (frames : ℕ) → ((time : ℕ)
 silent lines t zero h = refl
 silent lines t (suc frames) h = ap (λ (c : List Cue). c ++ cuesAt lines frames (soundedAt t frames)) (silent lines t frames h) ∙ ap (cuesAt lines frames) (h frames)
 
-pub cues-on : (lines : List ℕ) (t : Transport) (a b : ℕ) → sound t ≡ true → t .position + (a + b) ≤ 2 ^ 64 - 1
+pub cues-on : (lines : List ℕ) (t : Transport) (a b : ℕ) → sound t ≡ true → Reaches t (a + b)
     → cues lines t (a + b) ≡ cues lines t a ++ map (later a) (cues lines (advanced t a .transport) b)
 cues-on lines t a zero is h = ap (cues lines t) (add-zero a) ∙ sym (append-nil (cues lines t a))
 cues-on lines t a (suc b) is h =
@@ -95,5 +95,5 @@ cues-on lines t a (suc b) is h =
     last : List Cue
     last = cuesAt lines (a + b) (soundedAt t (a + b))
 
-    small : t .position + (a + b) ≤ 2 ^ 64 - 1
-    small = omega (arith, add-suc a b)
+    small : Reaches t (a + b)
+    small p = omega (arith, h p, add-suc a b)

@@ -112,7 +112,7 @@ module _ (lines : List ℕ) (t : Transport) (up : ascends lines ≡ true) (is : 
   -- the rest, behind frames that come to a place
   rest-is : (a b : ℕ) (place : Stands) → t .position + (a + b) ≤ 2 ^ 64 - 1 → standing (t .length) (t .looping) (t .position + a) ≡ place
       → cues lines t (a + b) ≡ cues lines t a ++ map (later a) (cues lines (came t place .transport) b)
-  rest-is a b place h e = cues-on lines t a b is h ∙ ap (λ (run : Run). cues lines t a ++ map (later a) (cues lines (run .transport) b)) (plays-on t a p (omega arith) ∙ ap (came t) e)
+  rest-is a b place h e = cues-on lines t a b is (λ q. h) ∙ ap (λ (run : Run). cues lines t a ++ map (later a) (cues lines (run .transport) b)) (plays-on t a p (omega arith) ∙ ap (came t) e)
 
   pub straight-off : (frames : ℕ) → t .looping ≡ Off → t .position + frames ≤ t .length → t .position + frames ≤ 2 ^ 64 - 1 → cues lines t frames ≡ stretch (t .position) frames 0 lines
   straight-off frames off k h = straight frames h (λ time g. simp (off, lt-leb (t .length) (t .position + time) (omega arith)))

@@ -96,7 +96,8 @@ pub record Within (from frames : ℕ) (part : List ℕ) : Type 0 where
   pub starts : (i : ℕ) → i < length part → from ≤ getD part i 0
   pub ends : (i : ℕ) → i < length part → getD part i 0 < from + frames
 
--- what the writer of a part asks: its times and its places are words, and there is room
+-- what the writer of a part asks: its times and its places are words (a place and a number of lines are at most 65,536 each, and so 131072 together), and
+-- there is room
 pub record Writes (part out : List ℕ) (at from place time : ℕ) : Type 0 where
   pub starts : (i : ℕ) → i < length part → from ≤ getD part i 0
   pub times : (i : ℕ) → i < length part → time + (getD part i 0 - from) ≤ 18446744073709551615

@@ -3,16 +3,16 @@
 use mathlib.Core.Path.{_≡_}
 use mathlib.Core.Bool.{Bool, true, false, _&&_, _||_}
 use mathlib.Core.List.{List, [], _∷_, _++_, map}
-use Prim.Native.Nat.{ℕ, zero, suc, _+_, _-_, _/_, _≤_, _^_}
-use lib.Dec.{leb}
-use lib.ListN.{length}
+use Prim.Native.Nat.{ℕ, zero, suc, _+_}
 use Rattle.numbers.specs.Answers.{Answer, accepted, refused, isAccepted}
 use Rattle.transport.specs.declared.Transport.{Transport}
 use Rattle.transport.specs.Transports.{sound}
 use Rattle.transport.specs.Changes.{Handed}
+use Rattle.transport.specs.Advances.{advanced}
+use Rattle.transport.specs.Promise.{Reaches}
 use Rattle.lines.specs.Lines.{linesAnswer}
 use Rattle.cues.specs.Sounding.{Cue, cues, later}
-use Rattle.cues.specs.CueCall.{Said, cueAnswer, cueAfter}
+use Rattle.cues.specs.CueCall.{roomFor, Said, cueAnswer, cueAfter}
 use Rattle.cues.specs.Exactly.{Exactly, Ordered}
 
 -- ---- one call
@@ -72,10 +72,32 @@ module _ (lines : List ℕ) where
   someFinishes t [] = false
   someFinishes t (block ∷ rest) = saidTo t block .finished || someFinishes (next t block) rest
 
+-- ---- the blocks, and the run
+
+abbrev pub framesIn : List Block → ℕ
+framesIn [] = 0
+framesIn (block ∷ rest) = block .frames + framesIn rest
+
+-- the blocks' cues joined are the run's, which are the bar lines sounded in playing order (`exactly`, `in-order` below); the transport at the end is that of
+-- one advance by all the frames; and some block reports a wrap, or a finish, just when that advance does
+pub record RunJoined (lines : List ℕ) (t : Transport) (blocks : List Block) : Type 0 where
+  pub run-cues : joinedCues lines t blocks ≡ cues lines t (framesIn blocks)
+  pub run-end : lastTransport lines t blocks ≡ advanced t (framesIn blocks) .transport
+  pub run-wrap : someWraps lines t blocks ≡ advanced t (framesIn blocks) .wrapped
+  pub run-finish : someFinishes lines t blocks ≡ advanced t (framesIn blocks) .finished
+
+-- for one or more blocks that do not carry the position past 2 ^ 64 - 1, where every block is accepted. (No block is no call, and an advance of 0 frames may
+-- wrap or finish.) Nothing is asked of the transport: a first block that is accepted shows that it is sound
+abbrev pub Joining : Type 0
+Joining = (lines : List ℕ) (t : Transport) (first : Block) (rest : List Block)
+    → Reaches t (framesIn (first ∷ rest))
+    → allAccepted lines t (first ∷ rest) ≡ true
+    → RunJoined lines t (first ∷ rest)
+
 -- ---- the whole, and its blocks
 
--- the whole's cues are the run's, which are the bar lines sounded in playing order (`exactly`, `in-order` below), and they are the blocks' joined; the end
--- transport is the same; and the whole reports a wrap, or a finish, just when some block does
+-- the whole's cues are the run's, and they are the blocks' joined; the end transport is the same; and the whole reports a wrap, or a finish, just when some
+-- block does
 pub record SameAsBlocks (lines : List ℕ) (t : Transport) (whole : Block) (blocks : List Block) : Type 0 where
   pub sounded-cues : cuesIn lines t whole ≡ cues lines t (whole .frames)
   pub same-cues : cuesIn lines t whole ≡ joinedCues lines t blocks
@@ -83,35 +105,28 @@ pub record SameAsBlocks (lines : List ℕ) (t : Transport) (whole : Block) (bloc
   pub same-wrap : saidTo lines t whole .wrapped ≡ someWraps lines t blocks
   pub same-finish : saidTo lines t whole .finished ≡ someFinishes lines t blocks
 
-abbrev pub framesIn : List Block → ℕ
-framesIn [] = 0
-framesIn (block ∷ rest) = block .frames + framesIn rest
-
--- for a sound transport and one or more blocks that do not carry the position past 2 ^ 64 - 1, where the whole and every block are accepted
+-- for one or more blocks, where the whole and every block are accepted: a whole that is accepted shows that the transport is sound and the run in reach
 abbrev pub ByBlocks : Type 0
 ByBlocks = (lines : List ℕ) (t : Transport) (whole first : Block) (rest : List Block)
-    → sound t ≡ true
     → whole .frames ≡ framesIn (first ∷ rest)
-    → t .position + framesIn (first ∷ rest) ≤ 2 ^ 64 - 1
     → isAccepted (answerTo lines t whole .answer) ≡ true
     → allAccepted lines t (first ∷ rest) ≡ true
     → SameAsBlocks lines t whole (first ∷ rest)
 
 -- ---- when the calls are accepted
 
--- every output has room for so many cues
-abbrev pub allRoom : ℕ → List Block → Bool
-allRoom count [] = true
-allRoom count (block ∷ rest) = leb count (length (block .out) / 2) && allRoom count rest
+-- every output has room for the cues of its own block
+abbrev pub allRoom : List ℕ → Transport → List Block → Bool
+allRoom lines t [] = true
+allRoom lines t (block ∷ rest) = roomFor (cues lines t (block .frames)) (block .out) && allRoom lines (advanced t (block .frames) .transport) rest
 
--- with lines that are not refused, and room for all cues of the run in every output, no call is refused
+-- with lines that are not refused, and a run in reach, no call is refused just where there is this room
 abbrev pub Accepting : Type 0
 Accepting = (lines : List ℕ) (t : Transport) (blocks : List Block)
     → sound t ≡ true
     → linesAnswer lines ≡ accepted tt
-    → t .position + framesIn blocks ≤ 2 ^ 64 - 1
-    → allRoom (length (cues lines t (framesIn blocks))) blocks ≡ true
-    → allAccepted lines t blocks ≡ true
+    → Reaches t (framesIn blocks)
+    → allAccepted lines t blocks ≡ allRoom lines t blocks
 
 -- ---- from call to call
 
@@ -122,6 +137,7 @@ StaysSound = (lines : List ℕ) (t : Transport) (block : Block) → sound t ≡ 
 -- ---- the promise
 
 pub record Promised : Type 0 where
+  pub joining : Joining
   pub by-blocks : ByBlocks
   pub exactly : Exactly
   pub in-order : Ordered

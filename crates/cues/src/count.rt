@@ -8,7 +8,8 @@ pub enum Counted {
     TooMany,
 }
 
-// The sum first + laps * lap + last. The laps may be nearly 2^64, and no product overflows.
+// The sum first + laps * lap + last. Two stretches have at most 65,536 cues each, and so 131,072
+// together. The laps may be nearly 2^64, and no product overflows.
 pub fn total(first: usize, lap: usize, laps: u64, last: usize, room: usize) -> Counted
     requires { ⌜ first + last ≤ 131072 ⌝ }
     ensures { λ r. ⌜ r ≡ countedTo room (first + (laps * lap + last)) ⌝ }

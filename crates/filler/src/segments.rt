@@ -1,5 +1,5 @@
-// The bars from `first` on last `len` each, and `first` starts at `at`; `number` is the number of
-// the meter point in force.
+// A segment: the bars from `first` on last `len` each, and `first` starts at `at`; `number` is the
+// number of the meter point in force.
 use beats::Beat;
 use beats::sums;
 use meter::MeterPoint;
@@ -52,16 +52,16 @@ fn length_of(words: &[u32], default: u32, number: u64) -> Beat
 }
 
 // Where the segment ends that the bar follows.
-fn end_of(s: Segment, bar: u32) -> Beat
-    requires { ⌜ s .first ≤ bar ⌝ }
-    ensures { λ r. ⌜ r ≡ endOf s bar ⌝ }
+fn end_of(segment: Segment, bar: u32) -> Beat
+    requires { ⌜ segment .first ≤ bar ⌝ }
+    ensures { λ r. ⌜ r ≡ endOf segment bar ⌝ }
 {
-    let at = s.at;
-    let len = s.len;
-    if s.first == 0 {
+    let at = segment.at;
+    let len = segment.len;
+    if segment.first == 0 {
         sums::add(at, len).or_most()
     } else {
-        bars::after_bars(at, len, bar - s.first)
+        bars::after_bars(at, len, bar - segment.first)
     }
 }
 
@@ -73,14 +73,18 @@ fn begins(bar: u32, mark: u64) -> bool
 }
 
 // The segment that the next bar lies in: a new one where a point is listed for it.
-pub fn on_to(t: Transport, words: &[u32], bar: u32, mark: u64, s: Segment) -> Segment
-    requires { ⌜ Before (pointsOf (now words)) (t .«beats_per_bar») (t .pickup) bar s ⌝ }
+pub fn on_to(t: Transport, words: &[u32], bar: u32, mark: u64, segment: Segment) -> Segment
+    requires { ⌜ Before (pointsOf (now words)) (t .«beats_per_bar») (t .pickup) bar segment ⌝ }
     requires { ⌜ mark ≡ markOf (pointsOf (now words)) bar ⌝ }
     ensures { λ r. ⌜ Has (pointsOf (now (words .entry))) (t .«beats_per_bar») (t .pickup) bar r ⌝ }
 {
-    let number = if s.number < mark { mark } else { s.number };
+    let number = if segment.number < mark {
+        mark
+    } else {
+        segment.number
+    };
     if begins(bar, mark) {
-        let at = end_of(s, bar);
+        let at = end_of(segment, bar);
         let len = length_of(words, t.beats_per_bar, number);
         return Segment {
             first: bar,
@@ -89,10 +93,10 @@ pub fn on_to(t: Transport, words: &[u32], bar: u32, mark: u64, s: Segment) -> Se
             number,
         };
     }
-    let at = s.at;
-    let len = s.len;
+    let at = segment.at;
+    let len = segment.len;
     Segment {
-        first: s.first,
+        first: segment.first,
         at,
         len,
         number,
@@ -100,15 +104,15 @@ pub fn on_to(t: Transport, words: &[u32], bar: u32, mark: u64, s: Segment) -> Se
 }
 
 // Where a bar of the segment starts.
-pub fn start_in(s: Segment, bar: u32) -> Beat
-    requires { ⌜ s .first ≤ bar ⌝ }
-    ensures { λ r. ⌜ r ≡ startIn s bar ⌝ }
+pub fn start_in(segment: Segment, bar: u32) -> Beat
+    requires { ⌜ segment .first ≤ bar ⌝ }
+    ensures { λ r. ⌜ r ≡ startIn segment bar ⌝ }
 {
-    let at = s.at;
-    let len = s.len;
-    if bar == s.first {
+    let at = segment.at;
+    let len = segment.len;
+    if bar == segment.first {
         at
     } else {
-        bars::after_bars(at, len, bar - s.first)
+        bars::after_bars(at, len, bar - segment.first)
     }
 }

@@ -51,28 +51,28 @@ pub fn place_of(beat: f64) -> usize
 }
 
 // Where to go on for a beat: from a walk, and where the beat falls behind it, from the beginning.
-pub fn resume(nums: &[i64], dens: &[u32], tempos: &[u32], beat: f64, w: Stand) -> Stand
+pub fn resume(nums: &[i64], dens: &[u32], tempos: &[u32], beat: f64, stand: Stand) -> Stand
     requires { ⌜ Parallel (now nums) (now dens) (now tempos) ⌝ }
-    requires { ⌜ Serves (now nums) (now dens) (now tempos) (w .beat) w ⌝ }
+    requires { ⌜ Serves (now nums) (now dens) (now tempos) (stand .beat) stand ⌝ }
     ensures { λ r. ⌜ Serves (now (nums .entry)) (now (dens .entry)) (now (tempos .entry)) beat r ⌝ }
 {
-    if w.beat <= beat {
-        return w;
+    if stand.beat <= beat {
+        return stand;
     }
     begin(nums, dens, tempos)
 }
 
 // Past the points that lie before a beat.
-pub fn walk_to(nums: &[i64], dens: &[u32], tempos: &[u32], beat: f64, w: Stand) -> Stand
+pub fn walk_to(nums: &[i64], dens: &[u32], tempos: &[u32], beat: f64, stand: Stand) -> Stand
     requires { ⌜ Parallel (now nums) (now dens) (now tempos) ⌝ }
-    requires { ⌜ Serves (now nums) (now dens) (now tempos) beat w ⌝ }
+    requires { ⌜ Serves (now nums) (now dens) (now tempos) beat stand ⌝ }
     ensures { λ r. ⌜ r .beat ≡ beat ⌝ }
     ensures { λ r. ⌜ Stopped (now (nums .entry)) (now (dens .entry)) (now (tempos .entry)) r ⌝ }
 {
-    let mut secs: f64 = w.secs;
-    let mut from: f64 = w.from;
-    let mut tempo: f64 = w.tempo;
-    let mut i: usize = w.next;
+    let mut secs: f64 = stand.secs;
+    let mut from: f64 = stand.from;
+    let mut tempo: f64 = stand.tempo;
+    let mut i: usize = stand.next;
     while i < nums.len() {
         let at: f64 = frames::float_of(Beat {
             num: nums[i],
@@ -102,13 +102,16 @@ pub fn walk_to(nums: &[i64], dens: &[u32], tempos: &[u32], beat: f64, w: Stand) 
 }
 
 // The frame of the beat that the walk was taken to. Where the map has no points there is no walk.
-pub fn frame_at(t: Transport, nums: &[i64], dens: &[u32], tempos: &[u32], w: Stand) -> u64
+pub fn frame_at(t: Transport, nums: &[i64], dens: &[u32], tempos: &[u32], stand: Stand) -> u64
     requires { ⌜ Parallel (now nums) (now dens) (now tempos) ⌝ }
-    requires { ⌜ Stopped (now nums) (now dens) (now tempos) w ⌝ }
-    ensures { λ r. ⌜ r ≡ frameAtBeat t (tempoPoints (now (nums .entry)) (now (dens .entry)) (now (tempos .entry))) (w .beat) ⌝ }
+    requires { ⌜ Stopped (now nums) (now dens) (now tempos) stand ⌝ }
+    ensures { λ r. ⌜ r ≡ frameAtBeat t (tempoPoints (now (nums .entry)) (now (dens .entry)) (now (tempos .entry))) (stand .beat) ⌝ }
 {
     if nums.len() == 0 {
-        return places::frame_at_beat(t, w.beat, nums, dens, tempos);
+        return places::frame_at_beat(t, stand.beat, nums, dens, tempos);
     }
-    frames::frames_at(walks::later(w.secs, w.from, w.beat, w.tempo), t.sample_rate)
+    frames::frames_at(
+        walks::later(stand.secs, stand.from, stand.beat, stand.tempo),
+        t.sample_rate,
+    )
 }

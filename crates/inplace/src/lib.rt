@@ -1,5 +1,5 @@
-// An advance over a transport that stands in the caller's memory, for who has it by value: it is
-// lent to `advance_in_place`, and handed back as that leaves it.
+// An advance over a transport that stands in the caller's memory, for a caller that has it by
+// value: it is lent to `advance_in_place`, and handed back as that leaves it.
 use transport::Advanced;
 use transport::Transport;
 ghost use mathlib.Core.Path.{_≡_};

@@ -3,30 +3,32 @@
 use mathlib.Core.Path.{_≡_, refl, sym, ap, _∙_}
 use mathlib.Core.Bool.{Bool, true, false, cond, _&&_, _||_}
 use mathlib.Core.List.{List, [], _∷_, _++_, map}
-use Prim.Native.Nat.{ℕ, _+_, _-_, _≤_, _^_}
-use native.Mathlib.Omega.{arith}
+use Prim.Native.Nat.{ℕ}
 use borrow.Author.Tests.{eq-eqb}
 use lib.Dec.{leb, eqb}
-use lib.ListN.{length, getD}
+use lib.ListN.{length}
 use Rattle.numbers.specs.Answers.{Answer, accepted, refused, number, given, isAccepted}
 use Rattle.numbers.proofs.Laws.{never, and-left, and-right}
 use Rattle.transport.specs.declared.playhead.Run.{Run}
 use Rattle.transport.specs.declared.Transport.{Transport}
 use Rattle.transport.specs.Transports.{sound, playing}
-use Rattle.transport.specs.Advances.{advanced}
+use Rattle.transport.specs.Changes.{Handed}
+use Rattle.transport.specs.Advances.{Moves, advanced}
+use Rattle.transport.specs.Promise.{Reaches}
+use Rattle.transport.proofs.Laws.{advance-fit}
 use Rattle.lines.specs.Lines.{ascends}
 use Rattle.cues.specs.Sounding.{cues, later}
 use Rattle.cues.specs.CueCall.{Said, inReach, roomFor, passing, movedBy, handedBy, cueAfter}
 use Rattle.cues.specs.Promise.{Block, said, pairsOf, answerTo, saidTo, next, cuesIn}
 use Rattle.cues.specs.Promise.{allAccepted, joinedCues, lastTransport, someWraps, someFinishes, framesIn}
-use Rattle.cues.proofs.Laws.{by-blocks, accepting}
+use Rattle.cues.proofs.Laws.{joining, by-blocks, accepted-fit, accepting}
 use Rattle.clock_words.specs.Clocks.{clockOf, placed}
-use Rattle.clock_words.proofs.Laws.{reads, by-words, placed-twice, placed-long}
-use Rattle.stand.specs.Calls.{cued, cuesAfter}
-use Rattle.stand.specs.Words.{flags, saidFlags, saidCount}
+use Rattle.clock_words.proofs.Laws.{placed-twice, placed-long}
+use Rattle.stand.specs.Calls.{advancedBy, cued, cuesAfter}
+use Rattle.stand.specs.Words.{flags, movesFlags, saidFlags, saidCount, clockAfter}
 use Rattle.stand.specs.Promise.{Call, blocksOf, saysWrapped, saysFinished, handedTo, numberTo, clockThen, reportThen, cuesThen}
-use Rattle.stand.specs.Promise.{allZero, cuesJoined, lastClock, someWrapped, someFinished, SameAsCalls, CutsIntoBlocks, Carries}
-use Rattle.stand.proofs.Carrying.{is-clock, carries}
+use Rattle.stand.specs.Promise.{allZero, cuesJoined, lastClock, someWrapped, someFinished, RunCalled, SameAsCalls, CutsIntoBlocks}
+use Rattle.stand.proofs.Carrying.{carries}
 
 -- ---- one answer
 
@@ -85,7 +87,7 @@ module _ (lines : List ℕ) where
 
     carried : clockOf (clockThen lines clock call) ≡ next lines (clockOf clock) (call .block)
     unfolding cued
-    carried = by-words Carries carries clock long .cues lines (call .block .frames) (call .block .out)
+    carried = carries clock long .cues lines (call .block .frames) (call .block .out)
 
   zero-is : (clock : List ℕ) (call : Call) → eqb (numberTo lines clock call) 0 ≡ isAccepted (answerTo lines (clockOf clock) (call .block) .answer)
   unfolding cued
@@ -167,31 +169,48 @@ module _ (lines : List ℕ) where
 
 -- ---- the promise
 
-module _ (clock : List ℕ) (long : length clock ≡ 11) (fit : sound (clockOf clock) ≡ true) where
-  position-is : clockOf clock .position ≡ getD clock 4 0
-  position-is = ap (λ (t : Transport). t .position) (reads clock (is-clock clock fit))
+module _ (clock : List ℕ) (long : length clock ≡ 11) (lines : List ℕ) where
+  module _ (first : Call) (rest : List Call) (all : allZero lines clock (first ∷ rest) ≡ true) where
+    oks : allAccepted lines (clockOf clock) (blocksOf (first ∷ rest)) ≡ true
+    oks = sym (all-zero lines (first ∷ rest) clock long) ∙ all
 
-  same-as-calls : (lines : List ℕ) (whole first : Call) (rest : List Call) → whole .block .frames ≡ framesIn (blocksOf (first ∷ rest))
-      → getD clock 4 0 + framesIn (blocksOf (first ∷ rest)) ≤ 2 ^ 64 - 1 → numberTo lines clock whole ≡ 0 → allZero lines clock (first ∷ rest) ≡ true
-      → SameAsCalls lines clock whole (first ∷ rest)
-  same-as-calls lines whole first rest same reach none all =
-      let ok = sym (zero-is lines clock whole) ∙ eq-eqb (numberTo lines clock whole) 0 none in
-      let oks = sym (all-zero lines (first ∷ rest) clock long) ∙ all in
-      let s = says lines clock whole ok in
-      let r = runs lines (first ∷ rest) clock long oks in
-      let b = by-blocks lines (clockOf clock) (whole .block) (first .block) (blocksOf rest) fit same (omega (arith, position-is, reach)) ok oks in
-      record {
-        sounded-cues = s .cues-are ∙ b .sounded-cues;
-        same-cues = s .cues-are ∙ b .same-cues ∙ sym (r .cues-are);
-        same-clock = s .clock-is ∙ ap (placed clock) (b .same-end) ∙ sym (ends lines rest clock first long oks);
-        same-wrap = s .wraps-is ∙ b .same-wrap ∙ sym (r .wraps-is);
-        same-finish = s .finishes-is ∙ b .same-finish ∙ sym (r .finishes-is);
-      }
+    run-called : Reaches (clockOf clock) (framesIn (blocksOf (first ∷ rest))) → RunCalled lines clock (first ∷ rest)
+    unfolding advancedBy
+    run-called reach =
+        let t = clockOf clock in
+        let n = framesIn (blocksOf (first ∷ rest)) in
+        let fit = accepted-fit lines t (first .block) (and-left (isAccepted (answerTo lines t (first .block) .answer)) _ oks) .0 in
+        let j = joining lines t (first .block) (blocksOf rest) reach oks in
+        let r = runs lines (first ∷ rest) clock long oks in
+        let wrapped = advanced t n .wrapped in
+        let finished = advanced t n .finished in
+        record {
+          run-cues = r .cues-are ∙ j .run-cues;
+          run-clock = ends lines rest clock first long oks ∙ ap (placed clock) (j .run-end) ∙ ap (clockAfter clock) (advance-fit t n fit);
+          run-wrap = λ report. r .wraps-is ∙ j .run-wrap ∙ sym (says-wrapped wrapped finished)
+              ∙ ap (λ (h : Handed Moves). saysWrapped (given movesFlags (h .answer) report)) (advance-fit t n fit);
+          run-finish = λ report. r .finishes-is ∙ j .run-finish ∙ sym (says-finished wrapped finished)
+              ∙ ap (λ (h : Handed Moves). saysFinished (given movesFlags (h .answer) report)) (advance-fit t n fit);
+        }
+
+    same-as-calls : (whole : Call) → whole .block .frames ≡ framesIn (blocksOf (first ∷ rest)) → numberTo lines clock whole ≡ 0 → SameAsCalls lines clock whole (first ∷ rest)
+    same-as-calls whole same none =
+        let ok = sym (zero-is lines clock whole) ∙ eq-eqb (numberTo lines clock whole) 0 none in
+        let s = says lines clock whole ok in
+        let r = runs lines (first ∷ rest) clock long oks in
+        let b = by-blocks lines (clockOf clock) (whole .block) (first .block) (blocksOf rest) same ok oks in
+        record {
+          sounded-cues = s .cues-are ∙ b .sounded-cues;
+          same-cues = s .cues-are ∙ b .same-cues ∙ sym (r .cues-are);
+          same-clock = s .clock-is ∙ ap (placed clock) (b .same-end) ∙ sym (ends lines rest clock first long oks);
+          same-wrap = s .wraps-is ∙ b .same-wrap ∙ sym (r .wraps-is);
+          same-finish = s .finishes-is ∙ b .same-finish ∙ sym (r .finishes-is);
+        }
 
 pub cuts : CutsIntoBlocks
-cuts clock long fit =
+cuts clock long =
     record {
-      by-blocks = same-as-calls clock long fit;
-      accepting = λ lines calls fine reach room.
-          all-zero lines calls clock long ∙ accepting lines (clockOf clock) (blocksOf calls) fit fine (omega (arith, position-is clock long fit, reach)) room;
+      joining = λ lines first rest reach all. run-called clock long lines first rest all reach;
+      by-blocks = λ lines whole first rest same none all. same-as-calls clock long lines first rest all whole same none;
+      accepting = λ lines calls fit fine reach. all-zero lines calls clock long ∙ accepting lines (clockOf clock) (blocksOf calls) fit fine reach;
     }

@@ -26,7 +26,7 @@ passed true next u e = refl
 passed false next u e = absurd (let z : _≡_ {A = ℕ} 0 1 = cc in omega arith)
 
 -- a sound clock is a clock
-pub is-clock : (words : List ℕ) → sound (clockOf words) ≡ true → clockWords words ≡ true
+is-clock : (words : List ℕ) → sound (clockOf words) ≡ true → clockWords words ≡ true
 is-clock words s = cases (clockWords words) (λ e. e) (λ e. absurd (no-clock-unsound words e s))
 
 module _ (rate bpm beats length position state loop start end num den : ℕ) where
@@ -60,17 +60,19 @@ module _ (rate bpm beats length position state loop start end num den : ℕ) whe
       go (refused n facts) e = refl
 
 pub carries : CarriesOn
-carries rate bpm beats length position state loop start end num den =
+carries =
+    by-words Carries
+    (λ rate bpm beats length position state loop start end num den.
     record {
       advances = advances rate bpm beats length position state loop start end num den;
       cues = cue rate bpm beats length position state loop start end num den;
-    }
+    })
 
 -- what is handed back is sound
 pub stay-sound : ClocksStaySound
 unfolding advancedBy cued
 stay-sound clock long fit =
-    let c = by-words Carries carries clock long in
+    let c = carries clock long in
     record {
       advances = λ frames. ap sound (c .advances frames) ∙ stays-sound (clockOf clock) fit .advances frames;
       cues = λ lines frames out. ap sound (c .cues lines frames out) ∙ cue-sound lines (clockOf clock) (record { frames = frames; out = out }) fit;

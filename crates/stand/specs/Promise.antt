@@ -4,19 +4,20 @@
 use mathlib.Core.Path.{_≡_}
 use mathlib.Core.Bool.{Bool, true, false, _&&_, _||_}
 use mathlib.Core.List.{List, [], _∷_, _++_, map}
-use Prim.Native.Nat.{ℕ, _+_, _-_, _/_, _%_, _≤_, _^_}
+use Prim.Native.Nat.{ℕ, _/_, _%_}
 use lib.Dec.{eqb}
-use lib.ListN.{length, getD}
+use lib.ListN.{length}
 use Rattle.numbers.specs.Answers.{accepted, number, given}
 use Rattle.transport.specs.Transports.{sound}
 use Rattle.transport.specs.Changes.{Handed}
+use Rattle.transport.specs.Promise.{Reaches}
 use Rattle.lines.specs.Lines.{linesAnswer}
 use Rattle.cues.specs.Sounding.{Cue, cues, later}
 use Rattle.cues.specs.CueCall.{Said}
 use Rattle.cues.specs.Promise.{Block, pairsOf, framesIn, allRoom}
 use Rattle.clock_words.specs.Clocks.{clockOf}
 use Rattle.stand.specs.Calls.{advancedBy, cued, cuesAfter}
-use Rattle.stand.specs.Words.{saidFlags, saidCount, clockAfter}
+use Rattle.stand.specs.Words.{movesFlags, saidFlags, saidCount, clockAfter}
 
 -- ---- from call to call
 
@@ -26,9 +27,7 @@ pub record Carries (clock : List ℕ) : Type 0 where
 
 -- of any eleven words
 abbrev pub CarriesOn : Type 0
-CarriesOn =
-    (rate bpm beats length position state loop start end num den : ℕ)
-    → Carries (rate ∷ bpm ∷ beats ∷ length ∷ position ∷ state ∷ loop ∷ start ∷ end ∷ num ∷ den ∷ [])
+CarriesOn = (clock : List ℕ) → length clock ≡ 11 → Carries clock
 
 -- a sound clock stays sound, whether a call is accepted or refused
 pub record StaysSound (clock : List ℕ) : Type 0 where
@@ -102,10 +101,20 @@ module _ (lines : List ℕ) where
   someFinished clock [] = false
   someFinished clock (call ∷ rest) = saysFinished (reportThen clock call) || someFinished (clockThen clock call) rest
 
+-- ---- the blocks, and the run
+
+-- the blocks' cues joined are the run's, which are the bar lines sounded in playing order (`exactly`, `in-order` of cues); the clock's words at the end are
+-- those that one call of pulleybale_advance by all the frames leaves; and some block's report says that it wrapped, or finished, just when that call's does
+pub record RunCalled (lines clock : List ℕ) (calls : List Call) : Type 0 where
+  pub run-cues : cuesJoined lines clock calls ≡ cues lines (clockOf clock) (framesIn (blocksOf calls))
+  pub run-clock : lastClock lines clock calls ≡ clockAfter clock (advancedBy clock (framesIn (blocksOf calls)))
+  pub run-wrap : (report : ℕ) → someWrapped lines clock calls ≡ saysWrapped (given movesFlags (advancedBy clock (framesIn (blocksOf calls)) .answer) report)
+  pub run-finish : (report : ℕ) → someFinished lines clock calls ≡ saysFinished (given movesFlags (advancedBy clock (framesIn (blocksOf calls)) .answer) report)
+
 -- ---- the whole, and its blocks
 
--- the whole's cues are the run's, which are the bar lines sounded in playing order (`exactly`, `in-order` of cues), and they are the blocks' joined; the
--- clock's words at the end are the same; and the whole's report says that it wrapped, or finished, just when some block's report does
+-- the whole's cues are the run's, and they are the blocks' joined; the clock's words at the end are the same; and the whole's report says that it wrapped, or
+-- finished, just when some block's report does
 pub record SameAsCalls (lines clock : List ℕ) (whole : Call) (calls : List Call) : Type 0 where
   pub sounded-cues : cuesThen lines clock whole ≡ cues lines (clockOf clock) (whole .block .frames)
   pub same-cues : cuesThen lines clock whole ≡ cuesJoined lines clock calls
@@ -113,21 +122,25 @@ pub record SameAsCalls (lines clock : List ℕ) (whole : Call) (calls : List Cal
   pub same-wrap : saysWrapped (reportThen lines clock whole) ≡ someWrapped lines clock calls
   pub same-finish : saysFinished (reportThen lines clock whole) ≡ someFinished lines clock calls
 
--- of eleven words that are a sound clock (word 4 is its position), whatever the words are that are lent
+-- of any eleven words, whatever the words are that are lent
 pub record Cuts (clock : List ℕ) : Type 0 where
-  -- for one or more blocks that do not carry the position past 2 ^ 64 - 1, where the whole and every block answer 0
+  -- for one or more blocks that do not carry the position past 2 ^ 64 - 1, where every block answers 0
+  pub joining : (lines : List ℕ) (first : Call) (rest : List Call)
+      → Reaches (clockOf clock) (framesIn (blocksOf (first ∷ rest)))
+      → allZero lines clock (first ∷ rest) ≡ true
+      → RunCalled lines clock (first ∷ rest)
+  -- for one or more blocks, where the whole and every block answer 0
   pub by-blocks : (lines : List ℕ) (whole first : Call) (rest : List Call)
       → whole .block .frames ≡ framesIn (blocksOf (first ∷ rest))
-      → getD clock 4 0 + framesIn (blocksOf (first ∷ rest)) ≤ 2 ^ 64 - 1
       → numberTo lines clock whole ≡ 0
       → allZero lines clock (first ∷ rest) ≡ true
       → SameAsCalls lines clock whole (first ∷ rest)
-  -- with lines that are not refused, and room for all cues of the run in every output, no call is refused
+  -- of a sound clock, with lines that are not refused, and a run in reach: every call answers 0 just where every output has room for the cues of its own block
   pub accepting : (lines : List ℕ) (calls : List Call)
+      → sound (clockOf clock) ≡ true
       → linesAnswer lines ≡ accepted tt
-      → getD clock 4 0 + framesIn (blocksOf calls) ≤ 2 ^ 64 - 1
-      → allRoom (length (cues lines (clockOf clock) (framesIn (blocksOf calls)))) (blocksOf calls) ≡ true
-      → allZero lines clock calls ≡ true
+      → Reaches (clockOf clock) (framesIn (blocksOf calls))
+      → allZero lines clock calls ≡ allRoom lines (clockOf clock) (blocksOf calls)
 
 abbrev pub CutsIntoBlocks : Type 0
-CutsIntoBlocks = (clock : List ℕ) → length clock ≡ 11 → sound (clockOf clock) ≡ true → Cuts clock
+CutsIntoBlocks = (clock : List ℕ) → length clock ≡ 11 → Cuts clock

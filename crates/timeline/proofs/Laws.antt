@@ -8,14 +8,14 @@ use Rattle.meter.specs.Starts.{startOf}
 use Rattle.tempo.specs.Tempos.{TempoPoint}
 use Rattle.transport.specs.declared.Transport.{Transport}
 use Rattle.timeline.specs.Places.{floatOf, secondsOf, frameAtBeat, frameAtBar}
--- how a call answers by what was tested, and how it hands on a change or hands back the old transport
-pub use Rattle.timeline.proofs.Testing.{ifPassed, by-test, passed-change, refused-change}
+-- how a call answers by what was tested
+pub use Rattle.timeline.proofs.Testing.{ifPassed, by-test}
 -- what is known of a transport and of maps that passed: sound, and parallel lists
-pub use Rattle.timeline.proofs.Testing.{Passes, passes, both-sound, parallel, tempo-parallel, maps-parallel}
--- seconds and beats by whether the tempo map has points
-pub use Rattle.timeline.proofs.Tempos.{own-seconds, own-beats, map-seconds, map-beats}
+pub use Rattle.timeline.proofs.Testing.{passes, both-sound, parallel}
+-- seconds where the tempo map has points
+pub use Rattle.timeline.proofs.Tempos.{map-seconds}
 -- a sound transport stays sound
-pub use Rattle.timeline.proofs.Sound.{stays-sound}
+pub use Rattle.timeline.proofs.Sound.{promised}
 -- no two cases of an answer read alike
 pub use Rattle.timeline.proofs.Readings.{frames-apart, places-apart}
 

@@ -16,7 +16,7 @@ use Rattle.transport.specs.Changes.{handed, ifSound, loopChange}
 use Rattle.transport.proofs.Laws as transport
 use Rattle.timeline.specs.Places.{frameAtBeat, frameAtBar}
 use Rattle.timeline.specs.Tests.{mapsTest, ifTested}
-use Rattle.timeline.specs.Promise.{StaysSound}
+use Rattle.timeline.specs.Promise.{StaysSound, Promised}
 
 module _ (t : Transport) (is : sound t ≡ true) where
   handed-back : (q : Bool) (number : ℕ) → sound (handed t (cond q (refused number []) (refused 12 [])) .transport) ≡ true
@@ -35,7 +35,7 @@ module _ (t : Transport) (is : sound t ≡ true) where
     abbrev barFrame : ℕ → ℕ
     barFrame bar = frameAtBar t (pointsOf words) (tempoPoints nums dens tempos) bar
 
-    pub stays-sound : StaysSound t words nums dens tempos
+    stays-sound : StaysSound t words nums dens tempos
     stays-sound = record {
       sought-beat = λ beat.
           let frame = frameAtBeat t (tempoPoints nums dens tempos) beat in
@@ -44,3 +44,6 @@ module _ (t : Transport) (is : sound t ≡ true) where
       looped-bars = λ start end.
           kept (mapsTest words nums dens tempos) (loopChange t (barFrame start) (barFrame end)) (transport.stays-sound t is .looped (barFrame start) (barFrame end));
     }
+
+pub promised : Promised
+promised t words nums dens tempos is = stays-sound t is words nums dens tempos

@@ -16,7 +16,7 @@ use Rattle.transport.proofs.Loops.{sound-loop}
 use Rattle.transport.proofs.Carrying.{placeOf, stands-within}
 
 -- where the sum is a frame, it is reached
-pub reached-is : (position frames : ℕ) → position + frames ≤ 2 ^ 64 - 1 → reached position frames ≡ position + frames
+reached-is : (position frames : ℕ) → position + frames ≤ 2 ^ 64 - 1 → reached position frames ≡ position + frames
 reached-is position frames h = omega arith
 
 module _ (t : Transport) (frames : ℕ) where
@@ -31,7 +31,7 @@ module _ (t : Transport) (frames : ℕ) where
   stays-put p = ap (λ (q : Bool). cond q (ran t frames) (stayed t)) p
 
 -- where it comes to does not depend on where it was
-pub came-moved : (t : Transport) (position : ℕ) (state : PlayState) (place : Stands) → came (movedTo t position state) place ≡ came t place
+came-moved : (t : Transport) (position : ℕ) (state : PlayState) (place : Stands) → came (movedTo t position state) place ≡ came t place
 came-moved t position state (At frame) = refl
 came-moved t position state (Wrapped frame) = refl
 came-moved t position state Ended = refl

@@ -29,17 +29,17 @@ pub data Carried (length : ℕ) (looping : LoopRange) (position a b : ℕ) : Typ
 -- ---- where a frame stands, by the tests
 
 module _ (length frame : ℕ) where
-  pub stands-off : frame < length → standing length Off frame ≡ At frame
+  stands-off : frame < length → standing length Off frame ≡ At frame
   stands-off h = simp (lt-leb _ _ h)
 
-  pub stands-ended : length ≤ frame → standing length Off frame ≡ Ended
+  stands-ended : length ≤ frame → standing length Off frame ≡ Ended
   stands-ended h = simp (le-leb _ _ h)
 
 module _ (length start end frame : ℕ) where
-  pub stands-before : end ≤ length → frame < end → standing length (On start end) frame ≡ At frame
+  stands-before : end ≤ length → frame < end → standing length (On start end) frame ≡ At frame
   stands-before k h = simp (lt-leb _ _ h, lt-leb length frame (omega arith))
 
-  pub stands-folded : end ≤ frame → standing length (On start end) frame ≡ Wrapped (fold start end frame)
+  stands-folded : end ≤ frame → standing length (On start end) frame ≡ Wrapped (fold start end frame)
   stands-folded h = simp (le-leb _ _ h)
 
 -- ---- where a playhead is

@@ -12,11 +12,11 @@ use Rattle.transport.specs.declared.playhead.Run.{Run}
 use Rattle.transport.specs.declared.Transport.{Transport}
 use Rattle.transport.specs.Transports.{sound, playing, movedTo}
 use Rattle.transport.specs.Advances.{standing, came, advanced, movesOf}
-use Rattle.transport.specs.Promise.{Composes, moving, CallsCompose, Promised}
+use Rattle.transport.specs.Promise.{Composes, Reaches, moving, CallsCompose, Promised}
 use Rattle.transport.proofs.Loops.{sound-loop}
 use Rattle.transport.proofs.Cases.{advance-fit}
 use Rattle.transport.proofs.Carrying.{Carried, went, folded, over, carried}
-use Rattle.transport.proofs.Sound.{advanced-sound, stays-sound}
+use Rattle.transport.proofs.Sound.{sound-made, advanced-sound, stays-sound}
 use Rattle.transport.proofs.Advancing.{plays-on, plays-from, stays-put}
 
 -- ---- two advances
@@ -39,8 +39,8 @@ composes-by t a b first second whole one two all e w f = record {
     said : (f : Run → Bool) → f whole ≡ (f first || f second) → f (advanced t (a + b)) ≡ (f (advanced t a) || f (advanced (advanced t a .transport) b))
     said f e = ap f all ∙ e ∙ sym (ap (λ (r : Run). f r || f second) one) ∙ sym (ap (λ (r : Run). f (advanced t a) || f r) then)
 
-module _ (t : Transport) (a b : ℕ) (h : t .position + (a + b) ≤ 2 ^ 64 - 1) where
-  module _ (p : playing (t .state) ≡ true) where
+module _ (t : Transport) (a b : ℕ) where
+  module _ (p : playing (t .state) ≡ true) (h : t .position + (a + b) ≤ 2 ^ 64 - 1) where
     first-is : (place : Stands) → standing (t .length) (t .looping) (t .position + a) ≡ place → advanced t a ≡ came t place
     first-is place e = plays-on t a p (omega arith) ∙ ap (came t) e
 
@@ -69,9 +69,9 @@ module _ (t : Transport) (a b : ℕ) (h : t .position + (a + b) ≤ 2 ^ 64 - 1) 
   composes-idle : playing (t .state) ≡ false → Composes t a b
   composes-idle p = composes-by t a b _ _ _ (stays-put t a p) (stays-put t b p) (stays-put t (a + b) p) refl refl refl
 
-  module _ (is : sound t ≡ true) where
+  module _ (h : Reaches t (a + b)) (is : sound t ≡ true) where
     pub composes : Composes t a b
-    composes = cases (playing (t .state)) (λ p. composes-playing p (carried (t .length) (t .looping) (t .position) a b (sound-loop t is))) composes-idle
+    composes = cases (playing (t .state)) (λ p. composes-playing p (h p) (carried (t .length) (t .looping) (t .position) a b (sound-loop t is))) composes-idle
 
     pub calls-compose : CallsCompose t a b
     calls-compose = record {
@@ -92,6 +92,7 @@ module _ (t : Transport) (a b : ℕ) (h : t .position + (a + b) ≤ 2 ^ 64 - 1) 
 
 pub promised : Promised
 promised = record {
+  made = sound-made;
   stays = stays-sound;
   composes = λ t a b is h. composes t a b h is;
   calls = λ t a b is h. calls-compose t a b h is;

@@ -18,10 +18,10 @@ use Rattle.transport.specs.declared.playhead.Stands.{Stands}
 use Rattle.transport.specs.declared.playhead.Stands.the-variants.{At, Wrapped, Ended}
 use Rattle.transport.specs.declared.playhead.Run.{Run}
 use Rattle.transport.specs.declared.Transport.{Transport}
-use Rattle.transport.specs.Transports.{goodLoop, soundLoop, sound, made, constantAt, movedTo, loopingBy, seekTo}
+use Rattle.transport.specs.Transports.{goodLoop, soundLoop, sound, made, movedTo, loopingBy, seekTo}
 use Rattle.transport.specs.Changes.{Handed, handed, ifSound, loopChange}
 use Rattle.transport.specs.Advances.{Moves, reached, came, advanced}
-use Rattle.transport.specs.Promise.{StaysSound}
+use Rattle.transport.specs.Promise.{MadeSound, StaysSound}
 use Rattle.transport.proofs.Loops.{sound-position, sound-loop, sound-pickup}
 use Rattle.transport.proofs.Cases.{fit, advance-fit}
 use Rattle.transport.proofs.Carrying.{placeOf, stands-within}
@@ -29,16 +29,21 @@ use Rattle.transport.proofs.Advancing.{placeAfter, by-playing}
 
 -- ---- transports made
 
-pub sound-by : (t : Transport) → t .position ≤ t .length → soundLoop (t .length) (t .looping) ≡ true → soundPickup (t .pickup) ≡ true → sound t ≡ true
+sound-by : (t : Transport) → t .position ≤ t .length → soundLoop (t .length) (t .looping) ≡ true → soundPickup (t .pickup) ≡ true → sound t ≡ true
 unfolding sound
 sound-by t position loop pickup = simp (le-leb (t .position) (t .length) position, loop, pickup)
 
 module _ (rate : ℕ) (bpm : Float) (beats : ℕ) where
-  pub made-sound : (length : ℕ) (pickup : Pickup) → soundPickup pickup ≡ true → sound (made rate bpm beats length pickup) ≡ true
+  made-sound : (length : ℕ) (pickup : Pickup) → soundPickup pickup ≡ true → sound (made rate bpm beats length pickup) ≡ true
   made-sound length pickup is = sound-by (made rate bpm beats length pickup) (omega arith) refl is
 
-  pub constant-sound : sound (constantAt rate bpm beats) ≡ true
-  constant-sound = made-sound (2 ^ 64 - 1) Absent refl
+  accepted-sound : (length : ℕ) (pickup : Pickup) (t : Transport) (q : Bool) → soundPickup pickup ≡ q
+      → cond q (accepted (made rate bpm beats length pickup)) (refused 1 []) ≡ accepted t → sound t ≡ true
+  accepted-sound length pickup t true is e = let same : made rate bpm beats length pickup ≡ t = cc in ap sound (sym same) ∙ made-sound length pickup is
+  accepted-sound length pickup t false is e = absurd (let z : _≡_ {A = ℕ} 0 1 = cc in omega arith)
+
+  pub sound-made : MadeSound rate bpm beats
+  sound-made = record { constant = made-sound (2 ^ 64 - 1) Absent refl; with-length = λ length pickup t e. accepted-sound length pickup t (soundPickup pickup) refl e }
 
 -- ---- a sound transport changed
 
@@ -46,16 +51,16 @@ module _ (t : Transport) (is : sound t ≡ true) where
   pub moved-sound : (position : ℕ) (state : PlayState) → position ≤ t .length → sound (movedTo t position state) ≡ true
   moved-sound position state h = sound-by (movedTo t position state) h (sound-loop t is) (sound-pickup t is)
 
-  pub sought-sound : (frame : ℕ) → sound (seekTo t frame) ≡ true
+  sought-sound : (frame : ℕ) → sound (seekTo t frame) ≡ true
   sought-sound frame = moved-sound (min frame (t .length)) (t .state) (omega arith)
 
-  pub looping-sound : (looping : LoopRange) → soundLoop (t .length) looping ≡ true → sound (loopingBy t looping) ≡ true
+  looping-sound : (looping : LoopRange) → soundLoop (t .length) looping ≡ true → sound (loopingBy t looping) ≡ true
   looping-sound looping good = sound-by (loopingBy t looping) (sound-position t is) good (sound-pickup t is)
 
 -- ---- a run
 
 module _ (t : Transport) (is : sound t ≡ true) where
-  pub came-sound : (place : Stands) → placeOf (t .length) place ≤ t .length → sound (came t place .transport) ≡ true
+  came-sound : (place : Stands) → placeOf (t .length) place ≤ t .length → sound (came t place .transport) ≡ true
   came-sound (At frame) h = moved-sound t is frame Playing h
   came-sound (Wrapped frame) h = moved-sound t is frame Playing h
   came-sound Ended h = moved-sound t is (t .length) Stopped h

@@ -55,7 +55,7 @@ fn pickup_anew(pickup: Pickup) -> Pickup
     }
 }
 
-// The same transport elsewhere. No other function writes a position.
+// The same transport elsewhere. No other function moves one.
 pub fn moved(t: Transport, position: u64, state: PlayState) -> Transport
     ensures { λ r. ⌜ r ≡ movedTo t position state ⌝ }
 {

@@ -1,11 +1,12 @@
 //! Bar lights of a looped cue, played in blocks of 64 and of 512 frames and as one run: the same
-//! lights on the same frames. `tools/link` builds and runs it.
+//! lights on the same frames, the same clock at the end, and the same report. `tools/link` builds
+//! and runs it.
 
 use std::process::ExitCode;
 
 /// A clock's words, as `include/pulleybale.h` has them.
 #[repr(C)]
-#[derive(Clone, Copy, Default)]
+#[derive(Clone, Copy, Default, PartialEq)]
 struct Clock {
     rate: u64,
     bpm: u64,
@@ -75,8 +76,8 @@ fn fill_lines(clock: &Clock, lines: &mut [u64]) -> Result<(), u32> {
     })
 }
 
-/// How many cues a run has; they are written to `cues`.
-fn cue(clock: &mut Clock, lines: &[u64], frames: u64, cues: &mut [u64]) -> Result<usize, u32> {
+/// How many cues a block has, and what it reports; the cues are written to `cues`.
+fn cue(clock: &mut Clock, lines: &[u64], frames: u64, cues: &mut [u64]) -> Result<(usize, u32), u32> {
     let (mut count, mut report) = (0, 0);
     // SAFETY: each pointer comes with its list's own length, and what is written is borrowed alone.
     answer(unsafe {
@@ -91,24 +92,32 @@ fn cue(clock: &mut Clock, lines: &[u64], frames: u64, cues: &mut [u64]) -> Resul
             &mut report,
         )
     })?;
-    Ok(count as usize)
+    Ok((count as usize, report))
 }
 
-/// The lights of a run, `block` frames at a time: each its frame and its bar.
-fn play(mut clock: Clock, lines: &[u64], run: u64, block: u64) -> Result<Vec<(u64, u64)>, u32> {
+/// A run that was played: its lights, each a frame and a bar, the clock at the end, and what some
+/// block reported.
+struct Played {
+    lights: Vec<(u64, u64)>,
+    end: (Clock, u32),
+}
+
+/// So many frames, `block` at a time, from the clock's position on.
+fn play(mut clock: Clock, lines: &[u64], run: u64, block: u64) -> Result<Played, u32> {
     let mut lights = Vec::new();
     let mut cues = [0; 128];
-    let mut gone = 0;
+    let (mut gone, mut reports) = (0, 0);
     while gone < run {
         let frames = block.min(run - gone);
-        let count = cue(&mut clock, lines, frames, &mut cues)?;
+        let (count, report) = cue(&mut clock, lines, frames, &mut cues)?;
         lights.extend(cues.chunks(2).take(count).map(|cue| (gone + cue[0], cue[1])));
+        reports |= report;
         gone += frames;
     }
-    Ok(lights)
+    Ok(Played { lights, end: (clock, reports) })
 }
 
-/// Whether all blocks have the lights of the whole run.
+/// Whether all blocks have the lights, the clock and the report of the whole run.
 fn show() -> Result<bool, u32> {
     let mut clock = Clock {
         rate: 48_000,
@@ -131,14 +140,19 @@ fn show() -> Result<bool, u32> {
     let run = 768_000;
     let whole = play(clock, &lines, run, run)?;
     println!("frame bar");
-    for (frame, bar) in &whole {
+    for (frame, bar) in &whole.lights {
         println!("{frame} {bar}");
     }
     let mut alike = true;
     for block in [64, 512] {
-        let equal = play(clock, &lines, run, block)? == whole;
-        println!("blocks of {block}: {}", if equal { "the same lights" } else { "OTHER LIGHTS" });
-        alike &= equal;
+        let cut = play(clock, &lines, run, block)?;
+        let (lights, end) = (cut.lights == whole.lights, cut.end == whole.end);
+        println!(
+            "blocks of {block}: {}, {}",
+            if lights { "the same lights" } else { "OTHER LIGHTS" },
+            if end { "the same clock and report" } else { "ANOTHER CLOCK OR REPORT" }
+        );
+        alike &= lights && end;
     }
     Ok(alike)
 }

@@ -106,7 +106,7 @@ pub const OPS: &[Op] = &[
     op(0x46, "position_bars", &[("transport", Transport), ("meter", Meter), ("tempo", Tempo)]),
     moves(0x50, "cues", &[("transport", Transport), ("frames", U64), ("room", Room), ("lines", Lines)]),
     op(0x51, "fill_lines", &[("transport", Transport), ("room", Room), ("meter", Meter), ("tempo", Tempo)]),
-    op(0x52, "lines_from", &[("start", U64), ("end", U64), ("lines", Lines)]),
+    op(0x52, "lines_between", &[("start", U64), ("end", U64), ("lines", Lines)]),
     op(0x60, "repeat", &[("bars", U32), ("steps_per_bar", U32), ("times", U32), ("room", Room), ("notes", Notes)]),
     op(
         0x61,

@@ -21,12 +21,12 @@ after-bars-requires c κs = search needs
 returns : tie.Need-returns
 returns c =
     let s = c .before .before .before .before .before .before in
-    c .or-most .ensures ∙ ap orMost (c .before .add .ensures) ∙ end-first (s .args .s) (s .args .bar) (c .before .before .if1 .taken)
+    c .or-most .ensures ∙ ap orMost (c .before .add .ensures) ∙ end-first (s .args .segment) (s .args .bar) (c .before .before .if1 .taken)
 
 returns-2 : tie.Need-returns-2
 returns-2 c =
     let s = c .before .before .before .before .before .before in
-    c .after-bars .ensures ∙ end-later (s .args .s) (s .args .bar) (c .before .before .if1 .left)
+    c .after-bars .ensures ∙ end-later (s .args .segment) (s .args .bar) (c .before .before .if1 .left)
 
 pub end-of-spec : {M : Type 1} → statement M
 end-of-spec = tie.close (tie.spec add-requires or-most-requires sub-after-bars after-bars-requires returns returns-2)

@@ -14,12 +14,12 @@ after-bars-requires c κs = search needs
 returns : tie.Need-returns
 returns c =
     let s = c .before .before .before .before in
-    start-own (s .args .s) (s .args .bar) (c .if1 .taken)
+    start-own (s .args .segment) (s .args .bar) (c .if1 .taken)
 
 returns-2 : tie.Need-returns-2
 returns-2 c =
     let s = c .before .before .before .before .before .before in
-    c .after-bars .ensures ∙ start-later (s .args .s) (s .args .bar) (c .before .before .if1 .left)
+    c .after-bars .ensures ∙ start-later (s .args .segment) (s .args .bar) (c .before .before .if1 .left)
 
 pub start-in-spec : {M : Type 1} → statement M
 start-in-spec = tie.close (tie.spec sub-after-bars after-bars-requires returns returns-2)

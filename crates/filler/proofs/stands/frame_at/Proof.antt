@@ -30,7 +30,7 @@ returns-2 c =
     let h = c .before .before .if1 .left in
     c .frames-at .ensures
     ∙ ap (λ (x : Float). framesAt x (a .t .«sample_rate»))
-    (c .before .later .ensures ∙ s .pre .1 .seconds (omega arith) ∙ map-seconds (a .t .bpm) (now (a .nums)) (now (a .dens)) (now (a .tempos)) (s .pre .0) (omega arith) (a .w .beat))
+    (c .before .later .ensures ∙ s .pre .1 .seconds (omega arith) ∙ map-seconds (a .t .bpm) (now (a .nums)) (now (a .dens)) (now (a .tempos)) (s .pre .0) (omega arith) (a .stand .beat))
 
 pub frame-at-spec : {M : Type 1} → statement M
 frame-at-spec =

@@ -8,7 +8,7 @@ returns : tie.Need-returns
 returns c =
     let s = c .before .before .before .before in
     let a = s .args in
-    serves-later (now (a .nums)) (now (a .dens)) (now (a .tempos)) (s .pre .0) (a .w .beat) (a .beat) (a .w) (c .if1 .taken) (s .pre .1)
+    serves-later (now (a .nums)) (now (a .dens)) (now (a .tempos)) (s .pre .0) (a .stand .beat) (a .beat) (a .stand) (c .if1 .taken) (s .pre .1)
 
 begin-requires : tie.Need-begin-requires
 begin-requires c κs = c .before .before .before .before .pre .0

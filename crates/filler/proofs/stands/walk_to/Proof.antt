@@ -21,7 +21,7 @@ abbrev μ-loop : tie.MeasureT-loop
 loop-holds : tie.Need-loop-holds Inv-loop μ-loop
 loop-holds c =
     let s = c .before .before in
-    serves-own (now (s .args .nums)) (now (s .args .dens)) (now (s .args .tempos)) (s .pre .0) (s .args .beat) (s .args .w) (s .pre .1)
+    serves-own (now (s .args .nums)) (now (s .args .dens)) (now (s .args .tempos)) (s .pre .0) (s .args .beat) (s .args .stand) (s .pre .1)
 
 mul-t11 : tie.Need-mul-t11 Inv-loop μ-loop
 mul-t11 c = search needs
