@@ -9,12 +9,12 @@ use native.Mathlib.Omega.{arith}
 use lib.IntN.{ℤ, pos, negsuc}
 use lib.Dec.{T, ltb, leb, eqb, ltb→lt, leb→le, lit<, lit≤}
 use lib.Pow.{pow-add, pow-pos}
-use lib.Ieee.{Float, nan, inf, fin, Format, binary64, prec, emax, low, up, down, fits, ne, neg, odd, units, round, ofInt, ofBits, toBits, toUnsigned}
+use lib.Ieee.{Float, nan, inf, fin, Format, binary64, prec, emax, low, up, down, fits, ne, neg, odd, units, round, ofInt, toBits, toUnsigned}
 use lib.Ieee.Fits.{and-l, and-r, down-pos, neg-fits, ofInt-fits, round-is, round-fits}
-use lib.Ieee.Bits.{ofBits-toBits}
 use lib.Ieee.Exact.{HasValue, round-exact}
 use lib.Ieee.Back.{round-whole, whole-unique}
 use Rattle.rounding.specs.Floats.{isNegative, withoutSign, floorOf, wholeAbove}
+use Rattle.rounding.proofs.Words.{same-float}
 
 -- ---- the whole numbers next to n / d
 
@@ -170,7 +170,7 @@ at (fin true m e) F h s is =
     kept binary64 true m e n F (rw mul-one at (subst (λ (y : Float). HasValue y true n 1) (sym (is ∙ neg-round binary64 n)) (round-whole binary64 true n (le-trans h (lit≤ tt))) .1))
 
 pub floor-at : (x : Float) → T (fits binary64 x) → part x ≤ 2 ^ 53 - 1 → isNegative x ≡ true → toBits binary64 x ≡ toBits binary64 (turned x) → x ≡ floorOf binary64 x
-floor-at x F h s w = at x F h s (sym (ofBits-toBits binary64 x F) ∙ ap (λ (k : ℕ). ofBits binary64 k) w ∙ ofBits-toBits binary64 (turned x) (neg-fits binary64 (ofInt binary64 (pos (part x))) (ofInt-fits binary64 (pos (part x)))))
+floor-at x F h s w = at x F h s (same-float binary64 x (turned x) F (neg-fits binary64 (ofInt binary64 (pos (part x))) (ofInt-fits binary64 (pos (part x)))) w)
 
 pub floor-after : (x : Float) → T (fits binary64 x) → ne x x ≡ false → part x ≤ 2 ^ 53 - 1 → isNegative x ≡ true → (toBits binary64 x ≡ toBits binary64 (turned x) → ⊥) → neg (ofInt binary64 (pos (part x + 1))) ≡ floorOf binary64 x
 unfolding ne toUnsigned withoutSign isNegative ofInt floorOf

@@ -5,6 +5,7 @@ pub mod Rounding
 pub mod Signs
 pub mod Nearest
 pub mod Flooring
+pub mod Places
 pub mod Order
 pub mod Upward
 pub mod Quotients

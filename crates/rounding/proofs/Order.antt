@@ -77,7 +77,7 @@ is-le (fin true m e) (fin false n d) = (λ h. tt, λ h. always (m * up e * down 
 is-le (fin true m e) (fin true n d) = (turned (m * up e * down d) (n * up d * down e), of-turned (m * up e * down d) (n * up d * down e))
 
 -- a product that is 0 with a factor above 0
-lost : (a b c : ℕ) → 0 < b → a * b ≤ 0 → a * c ≤ 0
+pub lost : (a b c : ℕ) → 0 < b → a * b ≤ 0 → a * c ≤ 0
 lost a b c p h = le-of-eq (rw (factor-zero a b p (le-zero h)) (zero-mul c))
 
 trans : (x y z : Float) → Le x y → Le y z → Le x z

@@ -1,16 +1,15 @@
--- A maximum and a clamp from the tests that a function makes: each test is one of the definition's own, so nothing is left but to put it in. Over no format.
+-- What a maximum and a clamp pick. A clamp from the tests that a function makes: each is one of the definition's own, so nothing is left but to put it in. Over no format.
 use mathlib.Core.Path.{_≡_, refl}
-use mathlib.Core.Bool.{Bool, true, false, _||_, cond, true≢false, or-true}
+use mathlib.Core.Bool.{Bool, true, false, _||_, cond}
 use Prim.Native.Nat.{ℕ, _+_, _*_, _≤_, _<_}
 use native.Mathlib.Nat.{le-refl, lt-of-lt-of-le, mul-pos, le-add-left}
 use borrow.Author.Tests.{le-ltb, lt-ltb, ltb-false}
 use lib.Dec.{T, ltb, ltb→lt, lt→ltb}
 use lib.IntN.{ℤ}
-use lib.Ieee.{Float, nan, inf, fin, up, down, lt, ne, isNan}
+use lib.Ieee.{Float, nan, inf, fin, up, down, lt, isNan}
 use lib.Ieee.Fits.{up-pos, down-pos}
 use lib.Ieee.Positive.{positive, first-pos}
 use Rattle.rounding.specs.Floats.{maximum, clamp}
-use Rattle.rounding.proofs.Nan.{is-nan}
 
 -- ---- a NaN
 
@@ -32,21 +31,6 @@ clamp-nan low (fin s m e) = refl
 
 -- ---- from the tests
 
-module _ (x y : Float) where
-  pub max-less : lt x y ≡ true → y ≡ maximum x y
-  unfolding maximum
-  max-less h = rw (h, or-true)
-
-  pub max-nan : ne x x ≡ true → y ≡ maximum x y
-  unfolding maximum isNan
-  max-nan h = rw (is-nan x h)
-
-pub max-else : (x y : Float) → lt x y ≡ false → ne x x ≡ false → x ≡ maximum x y
-unfolding maximum isNan ne
-max-else nan y h k = absurd (true≢false k)
-max-else (inf s) y h k = rw h
-max-else (fin s m e) y h k = rw h
-
 module _ (x low high : Float) where
   pub clamp-low : lt x low ≡ true → low ≡ clamp x low high
   unfolding clamp
@@ -62,7 +46,7 @@ module _ (x low high : Float) where
 
 -- ---- what holds of what was picked
 
-not-below-itself : (x : Float) → lt x x ≡ false
+pub not-below-itself : (x : Float) → lt x x ≡ false
 unfolding lt
 not-below-itself nan = refl
 not-below-itself (inf true) = refl

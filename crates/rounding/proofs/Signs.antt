@@ -1,16 +1,13 @@
 -- A cast at a sign and at another width, from the unsigned cast of the size: a minus takes it to 0, or turns it. Over the widths.
 use mathlib.Core.Path.{_≡_, refl, sym, ap, _∙_}
 use mathlib.Core.Bool.{Bool, true, false, cond, true≢false}
-use Prim.Native.Nat.{ℕ, zero, suc, _+_, _-_, _*_, _/_, _^_, _≤_, _<_, min, zero-le}
-use native.Mathlib.Nat.{le-trans, le-of-lt, lt-of-lt-of-le, le-add-right, zero-mul, min-eq-right, zero-min, suc-min-suc}
+use Prim.Native.Nat.{ℕ, zero, suc, _-_, _*_, _/_, _^_, _≤_, _<_, min, zero-le}
+use native.Mathlib.Nat.{le-of-lt, zero-mul, min-eq-right, zero-min, suc-min-suc}
 use native.Mathlib.Omega.{arith}
-use borrow.Author.Tests.{le-ltb, lt-ltb}
-use lib.Dec.{T, ltb, lit<}
+use borrow.Author.Tests.{le-ltb}
 use lib.IntN.{ℤ, pos, negℤ}
 use lib.Pow.{le-ones}
-use lib.Ieee.{Float, nan, inf, fin, binary64, fits, up, down, lt, neg, isNan, toBits, toUnsigned, toSigned}
-use lib.Ieee.Fits.{neg-fits}
-use lib.Ieee.Bits.{toBits-lt}
+use lib.Ieee.{Float, nan, inf, fin, up, down, lt, isNan, toUnsigned, toSigned}
 use Rattle.numbers.specs.Signs.{toI64, withSign}
 use Rattle.rounding.specs.Floats.{isNegative, withoutSign, roundAway, maximum, float0}
 use Rattle.rounding.proofs.Picks.{max-nan-left}
@@ -32,20 +29,6 @@ narrow v w h (inf true) = sym (zero-min (2 ^ v - 1))
 narrow v w h (inf false) = ends (2 ^ v) (2 ^ w) h
 narrow v w h (fin true m e) = sym (zero-min (2 ^ v - 1))
 narrow v w h (fin false m e) = again (m * up e / down e) (2 ^ v) (2 ^ w) h
-
--- ---- a sign
-
--- a pattern has the sign above the pattern of the size
-pub sign-place : (x : Float) → T (fits binary64 x) → ltb (2 ^ 63 - 1) (toBits binary64 x) ≡ isNegative x
-unfolding toBits isNegative neg
-sign-place nan F = refl
-sign-place (inf true) F = refl
-sign-place (inf false) F = refl
-sign-place (fin true m e) F = lt-ltb (2 ^ 63 - 1) (toBits binary64 (fin true m e)) (lt-of-lt-of-le (lit< tt) (le-trans (le-add-right (2 ^ 63) _) (le-add-right (2 ^ 63 + _) _)))
-sign-place (fin false m e) F = le-ltb (2 ^ 63 - 1) (toBits binary64 (fin false m e)) (go _ _ (toBits-lt binary64 (fin true m e) (neg-fits binary64 (fin false m e) F)))
-  where
-    go : (a b : ℕ) → 2 ^ 63 + a + b < 2 * 2 ^ 63 → 0 + a + b ≤ 2 ^ 63 - 1
-    go a b h = omega arith
 
 -- ---- the casts, by the sign and the size
 

@@ -5,8 +5,8 @@ use Prim.Native.Nat.{ℕ, _+_, _*_, _/_, _%_, _^_, _-_, _<_, _≤_}
 use lib.Dec.{T, ltb}
 use borrow.Author.Tests.{lt-ltb, le-ltb}
 use lib.Bits.{bitAnd, and-mask}
-use lib.Ieee.{Float, nan, inf, fin, Format, binary32, binary64, ones, hid, top, ofBits, toBits, nanBits, isNan}
-use lib.Ieee.Bits.{nanBits-is, nanBits-above}
+use lib.Ieee.{Float, nan, inf, fin, Format, binary32, binary64, ones, hid, top, fits, ofBits, toBits, nanBits, isNan}
+use lib.Ieee.Bits.{ofBits-toBits, nanBits-is, nanBits-above}
 use Rattle.rounding.specs.Floats.{float0, float1}
 
 -- the place of the sign, and an infinity's pattern
@@ -40,6 +40,10 @@ module _ (f : Format) (word : ℕ) where
 
   pub number-of : plain ≤ infWord f → T (not (nanBits f word))
   number-of h = subst (λ (b : Bool). T (not b)) (sym (above ∙ le-ltb (infWord f) plain h)) tt
+
+-- no two floats have one word
+pub same-float : (f : Format) (x y : Float) → T (fits f x) → T (fits f y) → toBits f x ≡ toBits f y → x ≡ y
+same-float f x y F G w = sym (ofBits-toBits f x F) ∙ ap (λ (k : ℕ). ofBits f k) w ∙ ofBits-toBits f y G
 
 -- the word of a NaN
 pub nan-word : (f : Format) (x : Float) → x ≡ nan → infWord f + hid f / 2 ≡ toBits f x

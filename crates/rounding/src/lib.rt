@@ -1,11 +1,11 @@
 // Floats worked out from their bits: the sign, rounding half away from zero, the casts that stop at
-// a width's ends, flooring, and floats as words; with them maximum, clamp and widening. Every
+// a width's ends, flooring, a maximum, and floats as words; with them clamp and widening. Every
 // function answers every input, NaNs and infinities included, and its contract is one equation.
 ghost use mathlib.Core.Path.{_≡_};
 ghost use mathlib.Core.Bool.{cond};
 ghost use lib.Ieee as Ieee;
 ghost use lib.Ieee.{binary32, binary64};
-ghost use Rattle.rounding.specs.Floats.{isNegative, withoutSign, roundAway, floorOf, maximum, clamp};
+ghost use Rattle.rounding.specs.Floats.{isNegative, withoutSign, roundAway, floorOf, placeOf, maximum, clamp};
 
 // The sign and the size, from the bits.
 
@@ -107,17 +107,30 @@ pub fn floor(x: f64) -> f64
     }
 }
 
-// Picks, by the comparisons of IEEE 754: a NaN goes as document 01 says, whichever side it stands
-// on.
+// Picks: a NaN goes as document 01 says, whichever side it stands on. A maximum is taken by the
+// bits, a clamp by the comparisons of IEEE 754.
+
+// Where x stands in the order of all floats: a NaN before all, 0 and -0 together in the middle.
+fn place(x: f64) -> u64
+    ensures { λ r. ⌜ r ≡ placeOf binary64 x ⌝ }
+{
+    if x != x {
+        return 0;
+    }
+    // 2^63 is the middle, and the sign's place in the bits
+    let bits: u64 = f64::to_bits(x);
+    if bits > 0x7fff_ffff_ffff_ffff {
+        0x8000_0000_0000_0000 - (bits - 0x8000_0000_0000_0000)
+    } else {
+        0x8000_0000_0000_0000 + bits
+    }
+}
 
 // `x.max(y)`: a NaN gives the other side.
 pub fn max_f64(x: f64, y: f64) -> f64
     ensures { λ r. ⌜ r ≡ maximum x y ⌝ }
 {
-    if x < y {
-        return y;
-    }
-    if x != x { y } else { x }
+    if place(x) < place(y) { y } else { x }
 }
 
 // `x.clamp(low, high)`: NaN and -0 stay. Where Rust panics, the definition's answer stands.

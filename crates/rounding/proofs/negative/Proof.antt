@@ -2,8 +2,9 @@
 use mathlib.Core.Path.{sym, ap, _∙_, subst}
 use Prim.Native.Nat.{ℕ, _-_, _^_}
 use lib.Dec.{T, ltb}
+use lib.Ieee.{binary64}
 use borrow.Author.Needs.{needs}
-use Rattle.rounding.proofs.Signs.{sign-place}
+use Rattle.rounding.proofs.Places.{sign-place}
 use Rattle.rounding.proofs.negative.Statement.{statement}
 use Rattle.rounding.proofs.negative.Tie as tie
 
@@ -11,7 +12,7 @@ f64-word-requires : tie.Need-f64-word-requires
 f64-word-requires c κs = search needs
 
 returns : tie.Need-returns
-returns c = ap (λ (word : ℕ). ltb (2 ^ 63 - 1) word) (c .f64-word .ensures) ∙ sign-place (c .before .args .x) (subst T (sym (c .before .good .0 .1)) tt)
+returns c = ap (λ (word : ℕ). ltb (2 ^ 63 - 1) word) (c .f64-word .ensures) ∙ sign-place binary64 (c .before .args .x) (subst T (sym (c .before .good .0 .1)) tt)
 
 pub negative-spec : {M : Type 1} → statement M
 negative-spec = tie.close (tie.spec f64-word-requires returns)
