@@ -1,9 +1,9 @@
 -- A loop that stores the points of flat words, one after another: those that are stored, and those that are left.
 use mathlib.Core.Path.{_≡_, refl, sym, ap, _∙_}
 use mathlib.Core.List.{List, [], _∷_, _++_, append-assoc, append-nil}
-use Prim.Native.Nat.{ℕ, _+_, _*_, _<_, _≤_}
+use Prim.Native.Nat.{ℕ, _+_, _*_, _/_, _<_, _≤_}
 use native.Mathlib.Omega.{arith}
-use lib.ListN.{length, set, take, drop, length-set}
+use lib.ListN.{length, set, take, drop, replicate, length-set, length-replicate}
 use lib.Seq.{take-suc-set}
 use native.Mathlib.Nat.{add-mul}
 use native.Mathlib.Numerals.{add-one}
@@ -16,10 +16,11 @@ pub record Filled (most : ℕ) (words : List ℕ) (points : List MeterPoint) (k 
   pub long : length points ≡ most
   pub stored : take k points ++ left words (k * 3) ≡ pointsOf words
 
-module _ (most : ℕ) (words : List ℕ) (points : List MeterPoint) where
-  pub none : length points ≡ most → Filled most words points 0
-  none long = record { long = long; stored = refl }
+-- the array is made of zeros
+pub none : (most : ℕ) (words : List ℕ) → Filled most words (replicate most (record { bar = 0; numerator = 0; denominator = 0 })) 0
+none most words = record { long = length-replicate most _; stored = refl }
 
+module _ (most : ℕ) (words : List ℕ) (points : List MeterPoint) where
   pub one-more : (k : ℕ) (point : MeterPoint) → Filled most words points k → k < most → k * 3 + 2 < length words → point ≡ pointAt words (k * 3) → Filled most words (set points k point) (k + 1)
   one-more k point F inside more e = record { long = length-set points k point ∙ F .long; stored = behind ∙ F .stored }
     where
@@ -35,5 +36,7 @@ module _ (most : ℕ) (words : List ℕ) (points : List MeterPoint) where
           (append-assoc (take k points) (pointAt words (k * 3) ∷ []) (pointsOf (drop (k * 3 + 3) words))
           ∙ ap (λ (map : List MeterPoint). take k points ++ map) (sym (points-step words (k * 3) more)))
 
-  pub all : (k : ℕ) → Filled most words points k → length words ≤ k * 3 + 2 → take k points ≡ pointsOf words
-  all k F over = sym (append-nil (take k points)) ∙ ap (λ (map : List MeterPoint). take k points ++ map) (sym (points-end words (k * 3) over)) ∙ F .stored
+  pub all : (k : ℕ) → Filled most words points k → k ≤ length words / 3 → length words / 3 ≤ k → take (length words / 3) points ≡ pointsOf words
+  all k F low high =
+      ap (λ (n : ℕ). take n points) (let e : length words / 3 ≡ k = omega arith in e) ∙ sym (append-nil (take k points))
+      ∙ ap (λ (map : List MeterPoint). take k points ++ map) (sym (points-end words (k * 3) (omega arith))) ∙ F .stored
