@@ -28,4 +28,4 @@ pub use Rattle.numbers.proofs.Orders.{isLess, less-is, equal-only, same
 pub use Rattle.numbers.proofs.Words.{by-order, ltb-same, product-fits, factor-zero, one-more}
 -- lists written into lent ones
 pub use Rattle.numbers.proofs.Lists.{sets-append, drop-four}
-pub use Rattle.numbers.proofs.Writing.{Writing, begin, begin-by, more, finish, in-place, ahead, skip, more-word, move}
+pub use Rattle.numbers.proofs.Writing.{Writing, begin, begin-by, more, finish, in-place, ahead, skip, more-word, copy-more, copied, move}
