@@ -2,8 +2,6 @@
 
 -- `new` answers lowest terms and the same value; a beat is its own `new`; beats with one value are the same two numbers
 pub use Rattle.beats.proofs.Values.{new-is-beat, new-value, own, own-value, own-value-left, value-same, one-beat}
--- 0 over any number is 0/1
-pub use Rattle.beats.proofs.Lowest.{nothing-is}
 -- `new` at any two numbers, and the denominator of a beat divides that of any fraction with its value
 pub use Rattle.beats.proofs.Lowest.{same-value, den-divides}
 -- what a beat is

@@ -2,7 +2,7 @@
 use mathlib.Core.Path.{_≡_, refl, sym, ap, _∙_, subst}
 use mathlib.Core.Bool.{Bool, true, _&&_}
 use Prim.Native.Nat.{ℕ, suc, max, _*_, _/_, _≤_, _<_, _∣_}
-use native.Mathlib.Nat.{le-trans, zero-div, div-self, div-one, div-le-self, le-div-iff-mul-le, div-mul-cancel, dvd-mul-left, mul-assoc, mul-right-comm}
+use native.Mathlib.Nat.{le-trans, div-one, div-le-self, le-div-iff-mul-le, div-mul-cancel, dvd-mul-left, mul-assoc, mul-right-comm}
 use native.Mathlib.Omega.{arith}
 use lib.Dec.{leb}
 use lib.IntN.{ℤ, pos, negsuc, negℤ, natAbs, _*ℤ_}
@@ -10,7 +10,7 @@ use lib.Signed.{mag, quotZ}
 use borrow.Author.Tests.{leb-true, le-leb}
 use Rattle.numbers.specs.Divisor.{gcdOf}
 use Rattle.numbers.specs.Signs.{isNeg, withSign, inI64}
-use Rattle.numbers.proofs.Laws.{gcd-left, gcd-right, gcd-pos, gcd-le, gcd-over, gcd-of-zero, euclid, same-den, same-num, abs-sign, sign-abs, abs-times, neg-times, minus-times, mag-quot, and-left, and-right}
+use Rattle.numbers.proofs.Laws.{gcd-left, gcd-right, gcd-pos, gcd-le, gcd-over, euclid, same-den, same-num, abs-sign, sign-abs, abs-times, neg-times, minus-times, mag-quot, and-left, and-right}
 use Rattle.beats.specs.declared.Beat.{Beat}
 use Rattle.beats.specs.Beats.{lowest, newBeat}
 use Rattle.beats.specs.Sums.{storable}
@@ -79,14 +79,6 @@ unfolding newBeat lowest
 stays b h e =
     let m : max (b .den) 1 ≡ b .den = omega arith in
     rw (m, e, quot-one (b .num), div-one (b .den))
-
--- ---- 0 / d is 0 / 1
-
-pub nothing-is : (d : ℕ) → newBeat (pos 0) d ≡ record { num = pos 0; den = 1 }
-unfolding newBeat lowest
-nothing-is d =
-    let h : 0 < max d 1 = omega arith in
-    rw (gcd-of-zero (max d 1) h, zero-div (max d 1), div-self h)
 
 -- ---- equal values
 

@@ -5,7 +5,7 @@ use Prim.Native.Nat.{ℕ, zero, suc}
 use lib.Dec.{leb}
 use lib.IntN.{ℤ}
 use lib.ListN.{length}
-use Rattle.numbers.specs.Answers.{Answer, accepted, refused, given}
+use Rattle.numbers.specs.Answers.{Answer, accepted, given}
 use Rattle.meter.specs.declared.MeterPoint.{MeterPoint}
 use Rattle.meter.specs.Meters.{pointsOf}
 use Rattle.tempo.specs.declared.MapTest.{MapTest}

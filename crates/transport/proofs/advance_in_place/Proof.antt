@@ -68,12 +68,9 @@ Arg = RefT Transport × (ℕ × Unit {0})
 abbrev stayed : Stays (in-place.ended .signature .params) (in-place.ended .kept)
 stayed = (stay-ref (0 ∷ []) tt (plain (λ _. T.the-row)), (stay-none (λ _. u64) yes, tt))
 
--- the machine values of a transport, of what `advance` gives back, and of its report
+-- the machine values of a transport and of a report
 abbrev mach : Transport → Val
 mach t = LL.val T.the-type T′.the-laws t
-
-abbrev machD : Advanced → Val
-machD d = LL.val D.the-type D′.the-laws d
 
 abbrev machR : Advance → Val
 machR r = EL.val R.the-type R′.the-laws r
