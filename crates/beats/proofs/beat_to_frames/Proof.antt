@@ -7,17 +7,12 @@ use borrow.Author.Needs.{needs}
 use Rattle.beats.proofs.beat_to_frames.Statement.{statement}
 use Rattle.beats.proofs.beat_to_frames.Tie as tie
 
-is-beat-requires : tie.Need-is-beat-requires
-is-beat-requires c κs = search needs
-
 returns : tie.Need-returns
 returns c = not-fine _ _ (sym (c .before .is-beat .ensures) ∙ not-true _ (c .if1 .taken))
-
-frame-of-requires : tie.Need-frame-of-requires
-frame-of-requires c κs = search needs
 
 returns-2 : tie.Need-returns-2
 returns-2 c = ap accepted (c .frame-of .ensures) ∙ is-fine _ _ (sym (c .before .before .is-beat .ensures) ∙ not-false _ (c .before .if1 .left))
 
 pub beat-to-frames-spec : {M : Type 1} → statement M
-beat-to-frames-spec = tie.close (tie.spec is-beat-requires returns frame-of-requires returns-2)
+beat-to-frames-spec =
+    tie.close (tie.spec (λ c κs. search needs) returns (λ c κs. search needs) returns-2)

@@ -19,17 +19,11 @@ use borrow.Author.Needs.{needs}
 use Rattle.beats.proofs.beat_to_step.Statement.{statement}
 use Rattle.beats.proofs.beat_to_step.Tie as tie
 
-is-beat-requires : tie.Need-is-beat-requires
-is-beat-requires c κs = search needs
-
 fine : (c : tie.Else1) → isBeat (c .before .before .args .beat) ≡ true
 fine c = sym (c .before .is-beat .ensures) ∙ not-false _ (c .if1 .left)
 
 returns : tie.Need-returns
 returns c = not-fine _ _ (sym (c .before .is-beat .ensures) ∙ not-true _ (c .if1 .taken))
-
-positive-requires : tie.Need-positive-requires
-positive-requires c κs = search needs
 
 rem-if2 : tie.Need-rem-if2
 rem-if2 c = beat-above (c .before .before .before .before .args .beat) (fine (c .before .before))
@@ -41,9 +35,6 @@ returns-2 c =
     between (s .beat .num) (s .beat .den) (c .before .positive .result) (omega (arith, c .before .positive .ensures)) (beat-lowest (s .beat) e) (c .if2 .taken)
     ∙ ap (onGrid (s .beat .num) (s .beat .den)) (c .before .positive .ensures)
     ∙ is-fine _ _ e
-
-negative-requires : tie.Need-negative-requires
-negative-requires c κs = search needs
 
 -- the numerator, read back from its bits, and its sign
 num-back : (c : tie.Else2) → (let z = c .before .before .before .before .before .args .beat .num in toZ w64 (ofZ w64 z) ≡ z)
@@ -66,20 +57,11 @@ returns-3 c =
     let s = t .before .before .before .before .before .args in
     ap accepted (before-zero (s .beat .num) (s .beat .den) (t .before .positive .result) (sign (c .before) ∙ c .if3 .taken)) ∙ stands t
 
-magnitude-requires : tie.Need-magnitude-requires
-magnitude-requires c κs = search needs
-
 div-saturating-mul : tie.Need-div-saturating-mul
 div-saturating-mul c = beat-above (c .before .before .before .before .before .before .before .before .args .beat) (fine (c .before .before .before .before .before .before))
 
 cast-saturating-mul : tie.Need-cast-saturating-mul
 cast-saturating-mul c = omega (arith, div-le-self (c .before .before .before .before .positive .result) (c .before .before .before .before .before .before .before .before .args .beat .den))
-
-saturating-mul-requires : tie.Need-saturating-mul-requires
-saturating-mul-requires c κs = search needs
-
-to-u32-requires : tie.Need-to-u32-requires
-to-u32-requires c κs = search needs
 
 returns-4 : tie.Need-returns-4
 returns-4 c =
@@ -93,17 +75,5 @@ returns-4 c =
 pub beat-to-step-spec : {M : Type 1} → statement M
 beat-to-step-spec =
     tie.close
-    (tie.spec
-    is-beat-requires
-    returns
-    positive-requires
-    rem-if2
-    returns-2
-    negative-requires
-    returns-3
-    magnitude-requires
-    div-saturating-mul
-    cast-saturating-mul
-    saturating-mul-requires
-    to-u32-requires
-    returns-4)
+    (tie.spec (λ c κs. search needs) returns (λ c κs. search needs) rem-if2 returns-2 (λ c κs. search needs) returns-3 (λ c κs. search needs) div-saturating-mul cast-saturating-mul
+    (λ c κs. search needs) (λ c κs. search needs) returns-4)

@@ -6,12 +6,6 @@ use borrow.Author.Needs.{needs}
 use Rattle.beats.proofs.both_beats.Statement.{statement}
 use Rattle.beats.proofs.both_beats.Tie as tie
 
-is-beat-requires : tie.Need-is-beat-requires
-is-beat-requires c κs = search needs
-
-is-beat-requires-2 : tie.Need-is-beat-requires-2
-is-beat-requires-2 c κs = search needs
-
 returns : tie.Need-returns
 returns c =
     let s = c .before .before .before .args in
@@ -23,4 +17,5 @@ returns-2 c =
     ap (λ (t : Bool). t && isBeat (s .b)) (sym (sym (c .before .is-beat .ensures) ∙ c .if1 .left))
 
 pub both-beats-spec : {M : Type 1} → statement M
-both-beats-spec = tie.close (tie.spec is-beat-requires is-beat-requires-2 returns returns-2)
+both-beats-spec =
+    tie.close (tie.spec (λ c κs. search needs) (λ c κs. search needs) returns returns-2)

@@ -9,15 +9,6 @@ use Rattle.benching.proofs.Words.{word}
 use Rattle.benching.proofs.fraction_word.Statement.{statement}
 use Rattle.benching.proofs.fraction_word.Tie as tie
 
-negative-requires : tie.Need-negative-requires
-negative-requires c κs = search needs
-
-cast-sign : tie.Need-cast-sign
-cast-sign c = search needs
-
-magnitude-requires : tie.Need-magnitude-requires
-magnitude-requires c κs = search needs
-
 returns : tie.Need-returns
 returns c =
     let s = c .before .before in
@@ -27,4 +18,5 @@ returns c =
     word num (s .args .den) (c .magnitude .result) (neg .result) (neg .ensures ∙ ap isNeg read) (c .magnitude .ensures ∙ ap natAbs read) (s .fits .den .fits)
 
 pub fraction-word-spec : {M : Type 1} → statement M
-fraction-word-spec = tie.close (tie.spec negative-requires cast-sign magnitude-requires returns)
+fraction-word-spec =
+    tie.close (tie.spec (λ c κs. search needs) (λ c. search needs) (λ c κs. search needs) returns)

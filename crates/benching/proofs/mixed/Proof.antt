@@ -6,13 +6,11 @@ use Rattle.benching.proofs.Words.{turned}
 use Rattle.benching.proofs.mixed.Statement.{statement}
 use Rattle.benching.proofs.mixed.Tie as tie
 
-wrapping-add-u64-requires : tie.Need-wrapping-add-u64-requires
-wrapping-add-u64-requires c κs = search needs
-
 returns : tie.Need-returns
 returns c =
     let s = c .before in
     c .wrapping-add-u64 .ensures ∙ ap (λ (x : ℕ). (x + s .args .answer) % 2 ^ 64) (turned (s .args .sum) (s .fits .sum .fits))
 
 pub mixed-spec : {M : Type 1} → statement M
-mixed-spec = tie.close (tie.spec wrapping-add-u64-requires returns)
+mixed-spec =
+    tie.close (tie.spec (λ c κs. search needs) returns)

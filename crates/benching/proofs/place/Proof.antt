@@ -4,17 +4,9 @@ use Rattle.benching.proofs.Words.{round}
 use Rattle.benching.proofs.place.Statement.{statement}
 use Rattle.benching.proofs.place.Tie as tie
 
-mul-result : tie.Need-mul-result
-mul-result c = search needs
-
-add-result : tie.Need-add-result
-add-result c = search needs
-
-cast-result : tie.Need-cast-result
-cast-result c = search needs
-
 returns : tie.Need-returns
 returns c = round (c .args .k)
 
 pub place-spec : {M : Type 1} → statement M
-place-spec = tie.close (tie.spec mul-result add-result cast-result returns)
+place-spec =
+    tie.close (tie.spec (λ c. search needs) (λ c. search needs) (λ c. search needs) returns)

@@ -20,29 +20,8 @@ copied : (report : LinesReport) (part out : List ℕ) → report ≡ Fine → le
     → (accepted (length part) ≡ partAnswer (readLines report) part out) × (us ≡ partAfter (readLines report) part out)
 copied report part out e h us f = rw (e, le-leb _ _ h) (refl, f)
 
-enum-told : tie.Need-enum-told
-enum-told c = search needs
-
-enum-told-2 : tie.Need-enum-told-2
-enum-told-2 c = search needs
-
-enum-told-3 : tie.Need-enum-told-3
-enum-told-3 c = search needs
-
 returns : tie.Need-returns
 returns c = let s = c .before .before .before .before .before .args in no-room (s .report) (s .part .now) (s .out .now) (c .before .enum-told3 .given .1) (c .if1 .taken)
-
-copy-requires : tie.Need-copy-requires
-copy-requires c κs = search needs
-
-returns-2 : tie.Need-returns-2
-returns-2 c = search needs
-
-returns-3 : tie.Need-returns-3
-returns-3 c = search needs
-
-same-length : tie.Need-same-length
-same-length c = search needs
 
 returns-4 : tie.Need-returns-4
 returns-4 c =
@@ -54,13 +33,4 @@ returns-4 c =
 pub copy-of-spec : {M : Type 1} → statement M
 copy-of-spec =
     tie.close
-    (tie.spec
-    enum-told
-    enum-told-2
-    enum-told-3
-    returns
-    copy-requires
-    returns-2
-    returns-3
-    same-length
-    returns-4)
+    (tie.spec (λ c. search needs) (λ c. search needs) (λ c. search needs) returns (λ c κs. search needs) (λ c. search needs) (λ c. search needs) (λ c. search needs) returns-4)

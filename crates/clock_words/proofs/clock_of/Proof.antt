@@ -19,76 +19,22 @@ is-one c = sym (c .before .is-clock .ensures) ∙ not-false _ (c .if1 .left)
 fine : (c : tie.Else1) → Shorts (c .before .before .args .words .now)
 fine c = shorts _ (is-one c)
 
-is-clock-requires : tie.Need-is-clock-requires
-is-clock-requires c κs = search needs
-
-no-clock-requires : tie.Need-no-clock-requires
-no-clock-requires c κs = search needs
-
 returns : tie.Need-returns
 returns c =
     let test = c .before .before in
     c .no-clock .ensures ∙ sym (reads-none (test .before .args .words .now) (sym (test .is-clock .ensures) ∙ not-true _ (c .before .if1 .taken)))
 
-element-copy-out-state-of : tie.Need-element-copy-out-state-of
-element-copy-out-state-of c = search needs
-
-state-of-requires : tie.Need-state-of-requires
-state-of-requires c κs = search needs
-
-element-copy-out-loop-of : tie.Need-element-copy-out-loop-of
-element-copy-out-loop-of c = search needs
-
-element-copy-out-loop-of-2 : tie.Need-element-copy-out-loop-of-2
-element-copy-out-loop-of-2 c = search needs
-
-element-copy-out-loop-of-3 : tie.Need-element-copy-out-loop-of-3
-element-copy-out-loop-of-3 c = search needs
-
-loop-of-requires : tie.Need-loop-of-requires
-loop-of-requires c κs = search needs
-
-element-copy-out-as-signed : tie.Need-element-copy-out-as-signed
-element-copy-out-as-signed c = search needs
-
-as-signed-requires : tie.Need-as-signed-requires
-as-signed-requires c κs = search needs
-
-element-copy-out-pickup-of : tie.Need-element-copy-out-pickup-of
-element-copy-out-pickup-of c = search needs
-
 cast-pickup-of : tie.Need-cast-pickup-of
 cast-pickup-of c = omega (arith, fine (c .before .before .before .before .before .before .before .before .before) .under)
-
-pickup-of-requires : tie.Need-pickup-of-requires
-pickup-of-requires c κs = search needs
-
-element-copy-out-t14 : tie.Need-element-copy-out-t14
-element-copy-out-t14 c = search needs
 
 cast-t23 : tie.Need-cast-t23
 cast-t23 c = omega (arith, fine (c .before .before .before .before .before .before .before .before .before .before .before) .rate)
 
-element-copy-out-f32-of : tie.Need-element-copy-out-f32-of
-element-copy-out-f32-of c = search needs
-
 cast-f32-of : tie.Need-cast-f32-of
 cast-f32-of c = omega (arith, fine (c .before .before .before .before .before .before .before .before .before .before .before .before) .bpm)
 
-f32-of-requires : tie.Need-f32-of-requires
-f32-of-requires c κs = search needs
-
-element-copy-out-t9 : tie.Need-element-copy-out-t9
-element-copy-out-t9 c = search needs
-
 cast-t32 : tie.Need-cast-t32
 cast-t32 c = omega (arith, fine (c .before .before .before .before .before .before .before .before .before .before .before .before .before .before) .beats)
-
-element-copy-out-t35 : tie.Need-element-copy-out-t35
-element-copy-out-t35 c = search needs
-
-element-copy-out-t38 : tie.Need-element-copy-out-t38
-element-copy-out-t38 c = search needs
 
 returns-2 : tie.Need-returns-2
 returns-2 c =
@@ -116,28 +62,6 @@ returns-2 c =
 pub clock-of-spec : {M : Type 1} → statement M
 clock-of-spec =
     tie.close
-    (tie.spec
-    is-clock-requires
-    no-clock-requires
-    returns
-    element-copy-out-state-of
-    state-of-requires
-    element-copy-out-loop-of
-    element-copy-out-loop-of-2
-    element-copy-out-loop-of-3
-    loop-of-requires
-    element-copy-out-as-signed
-    as-signed-requires
-    element-copy-out-pickup-of
-    cast-pickup-of
-    pickup-of-requires
-    element-copy-out-t14
-    cast-t23
-    element-copy-out-f32-of
-    cast-f32-of
-    f32-of-requires
-    element-copy-out-t9
-    cast-t32
-    element-copy-out-t35
-    element-copy-out-t38
-    returns-2)
+    (tie.spec (λ c κs. search needs) (λ c κs. search needs) returns (λ c. search needs) (λ c κs. search needs) (λ c. search needs) (λ c. search needs) (λ c. search needs)
+    (λ c κs. search needs) (λ c. search needs) (λ c κs. search needs) (λ c. search needs) cast-pickup-of (λ c κs. search needs) (λ c. search needs) cast-t23 (λ c. search needs)
+    cast-f32-of (λ c κs. search needs) (λ c. search needs) cast-t32 (λ c. search needs) (λ c. search needs) returns-2)

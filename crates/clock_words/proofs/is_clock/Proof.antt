@@ -6,22 +6,13 @@ use Rattle.clock_words.proofs.Words.{last-test}
 use Rattle.clock_words.proofs.is_clock.Statement.{statement}
 use Rattle.clock_words.proofs.is_clock.Tie as tie
 
-element-copy-out-if1 : tie.Need-element-copy-out-if1
-element-copy-out-if1 c = search needs
-
 returns : tie.Need-returns
 unfolding clockWords
 returns c = simp (lt-leb _ _ (c .if1 .taken))
 
-element-copy-out-if2 : tie.Need-element-copy-out-if2
-element-copy-out-if2 c = search needs
-
 returns-2 : tie.Need-returns-2
 unfolding clockWords
 returns-2 c = let rate = c .before .before in simp (le-leb _ _ (rate .if1 .left), lt-leb _ _ (c .if2 .taken))
-
-element-copy-out-if3 : tie.Need-element-copy-out-if3
-element-copy-out-if3 c = search needs
 
 returns-3 : tie.Need-returns-3
 unfolding clockWords
@@ -29,9 +20,6 @@ returns-3 c =
     let bpm = c .before .before in
     let rate = bpm .before .before in
     simp (le-leb _ _ (rate .if1 .left), le-leb _ _ (bpm .if2 .left), lt-leb _ _ (c .if3 .taken))
-
-element-copy-out-if4 : tie.Need-element-copy-out-if4
-element-copy-out-if4 c = search needs
 
 returns-4 : tie.Need-returns-4
 unfolding clockWords
@@ -41,9 +29,6 @@ returns-4 c =
     let rate = bpm .before .before in
     simp (le-leb _ _ (rate .if1 .left), le-leb _ _ (bpm .if2 .left), le-leb _ _ (beats .if3 .left), lt-leb _ _ (c .if4 .taken))
 
-element-copy-out-if5 : tie.Need-element-copy-out-if5
-element-copy-out-if5 c = search needs
-
 returns-5 : tie.Need-returns-5
 unfolding clockWords
 returns-5 c =
@@ -52,9 +37,6 @@ returns-5 c =
     let bpm = beats .before .before in
     let rate = bpm .before .before in
     simp (le-leb _ _ (rate .if1 .left), le-leb _ _ (bpm .if2 .left), le-leb _ _ (beats .if3 .left), le-leb _ _ (under .if4 .left), lt-leb _ _ (c .if5 .taken))
-
-element-copy-out-result : tie.Need-element-copy-out-result
-element-copy-out-result c = search needs
 
 returns-6 : tie.Need-returns-6
 returns-6 c =
@@ -70,16 +52,5 @@ returns-6 c =
 pub is-clock-spec : {M : Type 1} → statement M
 is-clock-spec =
     tie.close
-    (tie.spec
-    element-copy-out-if1
-    returns
-    element-copy-out-if2
-    returns-2
-    element-copy-out-if3
-    returns-3
-    element-copy-out-if4
-    returns-4
-    element-copy-out-if5
-    returns-5
-    element-copy-out-result
-    returns-6)
+    (tie.spec (λ c. search needs) returns (λ c. search needs) returns-2 (λ c. search needs) returns-3 (λ c. search needs) returns-4 (λ c. search needs) returns-5
+    (λ c. search needs) returns-6)

@@ -3,11 +3,9 @@ use borrow.Author.Needs.{needs}
 use Rattle.clock_words.proofs.no_clock.Statement.{statement}
 use Rattle.clock_words.proofs.no_clock.Tie as tie
 
-f32-of-requires : tie.Need-f32-of-requires
-f32-of-requires c κs = search needs
-
 returns : tie.Need-returns
 returns c = rw (c .f32-of .ensures)
 
 pub no-clock-spec : {M : Type 1} → statement M
-no-clock-spec = tie.close (tie.spec f32-of-requires returns)
+no-clock-spec =
+    tie.close (tie.spec (λ c κs. search needs) returns)

@@ -7,9 +7,6 @@ use Rattle.clock_words.proofs.pickup_of.Tie as tie
 returns : tie.Need-returns
 returns c = let s = c .before in over-den (s .args .num) (s .args .den) (s .fits .num) (c .if1 .taken)
 
-magnitude-requires : tie.Need-magnitude-requires
-magnitude-requires c κs = search needs
-
 returns-2 : tie.Need-returns-2
 returns-2 c =
     let size = c .before in
@@ -23,4 +20,5 @@ returns-3 c =
     absent (s .args .num) (s .args .den) (s .fits .num) (size .magnitude .result) (size .magnitude .ensures) (size .before .if1 .left) (c .if2 .left)
 
 pub pickup-of-spec : {M : Type 1} → statement M
-pickup-of-spec = tie.close (tie.spec returns magnitude-requires returns-2 returns-3)
+pickup-of-spec =
+    tie.close (tie.spec returns (λ c κs. search needs) returns-2 returns-3)

@@ -7,21 +7,6 @@ use Rattle.count_text.proofs.Files.{other-is, file-is}
 use Rattle.count_text.proofs.count_of.Statement.{statement}
 use Rattle.count_text.proofs.count_of.Tie as tie
 
-read-score-requires : tie.Need-read-score-requires
-read-score-requires c κs = search needs
-
-enum-told : tie.Need-enum-told
-enum-told c = search needs
-
-slice-aggregate-bytes : tie.Need-slice-aggregate-bytes
-slice-aggregate-bytes c = search needs
-
-bytes-requires : tie.Need-bytes-requires
-bytes-requires c κs = search needs
-
-enum-known-score : tie.Need-enum-known-score
-enum-known-score c = search needs
-
 asked-requires : tie.Need-asked-requires
 asked-requires c κs =
     let bound = c .before .before .before in
@@ -46,13 +31,4 @@ returns-2 c =
 
 pub count-of-spec : {M : Type 1} → statement M
 count-of-spec =
-    tie.close
-    (tie.spec
-    read-score-requires
-    enum-told
-    slice-aggregate-bytes
-    bytes-requires
-    enum-known-score
-    asked-requires
-    returns
-    returns-2)
+    tie.close (tie.spec (λ c κs. search needs) (λ c. search needs) (λ c. search needs) (λ c κs. search needs) (λ c. search needs) asked-requires returns returns-2)

@@ -6,15 +6,6 @@ use Rattle.filler.proofs.Testing.{passed, answered, after}
 use Rattle.filler.proofs.fill_lines.Statement.{statement}
 use Rattle.filler.proofs.fill_lines.Tie as tie
 
-test-requires : tie.Need-test-requires
-test-requires c κs = search needs
-
-enum-known-why : tie.Need-enum-known-why
-enum-known-why c = search needs
-
-enum-told : tie.Need-enum-told
-enum-told c = search needs
-
 fill-requires : tie.Need-fill-requires
 fill-requires c κs =
     let out = now (c .before .before .before .before .before .before .before .before .args .out) in
@@ -26,9 +17,6 @@ returns c =
     let e = sym (c .before .why .given .1) ∙ c .before .before .before .test .ensures in
     (answered _ _ _ _ _ out e, after _ _ _ _ _ out e)
 
-same-length : tie.Need-same-length
-same-length c = search needs
-
 returns-2 : tie.Need-returns-2
 returns-2 c =
     let out = now (c .before .before .before .before .before .before .before .before .before .before .before .args .out) in
@@ -37,5 +25,4 @@ returns-2 c =
 
 pub fill-lines-spec : {M : Type 1} → statement M
 fill-lines-spec =
-    tie.close
-    (tie.spec test-requires enum-known-why enum-told fill-requires returns same-length returns-2)
+    tie.close (tie.spec (λ c κs. search needs) (λ c. search needs) (λ c. search needs) fill-requires returns (λ c. search needs) returns-2)

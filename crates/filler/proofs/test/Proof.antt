@@ -7,30 +7,9 @@ use Rattle.timeline.specs.Tests.{tested, worse, testOf, mapsTest}
 use Rattle.filler.proofs.test.Statement.{statement}
 use Rattle.filler.proofs.test.Tie as tie
 
-is-sound-requires : tie.Need-is-sound-requires
-is-sound-requires c κs = search needs
-
 returns : tie.Need-returns
 unfolding testOf
 returns c = rw (sym (c .before .is-sound .ensures) ∙ not-true _ (c .if1 .taken))
-
-words-test-requires : tie.Need-words-test-requires
-words-test-requires c κs = search needs
-
-test-requires : tie.Need-test-requires
-test-requires c κs = search needs
-
-worse-requires : tie.Need-worse-requires
-worse-requires c κs = search needs
-
-lines-test-requires : tie.Need-lines-test-requires
-lines-test-requires c κs = search needs
-
-worse-requires-2 : tie.Need-worse-requires-2
-worse-requires-2 c κs = search needs
-
-found-requires : tie.Need-found-requires
-found-requires c κs = search needs
 
 returns-2 : tie.Need-returns-2
 unfolding testOf mapsTest
@@ -43,13 +22,5 @@ returns-2 c =
 pub test-spec : {M : Type 1} → statement M
 test-spec =
     tie.close
-    (tie.spec
-    is-sound-requires
-    returns
-    words-test-requires
-    test-requires
-    worse-requires
-    lines-test-requires
-    worse-requires-2
-    found-requires
-    returns-2)
+    (tie.spec (λ c κs. search needs) returns (λ c κs. search needs) (λ c κs. search needs) (λ c κs. search needs) (λ c κs. search needs) (λ c κs. search needs)
+    (λ c κs. search needs) returns-2)

@@ -12,9 +12,6 @@ returns c = rw (ne-eqb _ _ (c .if1 .taken))
 returns-2 : tie.Need-returns-2
 returns-2 c = rw (eq-eqb _ _ (c .before .if1 .left), lt-leb _ _ (c .if2 .taken))
 
-is-sound-requires : tie.Need-is-sound-requires
-is-sound-requires c κs = search needs
-
 returns-3 : tie.Need-returns-3
 returns-3 c =
     let t = c .before .before in
@@ -41,4 +38,4 @@ returns-5 c =
 
 pub fits-spec : {M : Type 1} → statement M
 fits-spec =
-    tie.close (tie.spec returns returns-2 is-sound-requires returns-3 decide-requires returns-4 returns-5)
+    tie.close (tie.spec returns returns-2 (λ c κs. search needs) returns-3 decide-requires returns-4 returns-5)

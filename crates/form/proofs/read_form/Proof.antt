@@ -4,18 +4,6 @@ use Rattle.form.proofs.Ends.{walk-wrong, walk-done}
 use Rattle.form.proofs.read_form.Statement.{statement}
 use Rattle.form.proofs.read_form.Tie as tie
 
-lines-requires : tie.Need-lines-requires
-lines-requires c κs = search needs
-
-enum-known-line : tie.Need-enum-known-line
-enum-known-line c = search needs
-
-enum-known-draft : tie.Need-enum-known-draft
-enum-known-draft c = search needs
-
-file-requires : tie.Need-file-requires
-file-requires c κs = search needs
-
 returns : tie.Need-returns
 returns c = walk-wrong _ _ _ _ _ _ (c.before.before.before .lines .ensures) (c.before .line .given .1)
 
@@ -26,5 +14,4 @@ returns-2 c =
 
 pub read-form-spec : {M : Type 1} → statement M
 read-form-spec =
-    tie.close
-    (tie.spec lines-requires enum-known-line enum-known-draft file-requires returns returns-2)
+    tie.close (tie.spec (λ c κs. search needs) (λ c. search needs) (λ c. search needs) (λ c κs. search needs) returns returns-2)

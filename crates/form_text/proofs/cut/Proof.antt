@@ -7,9 +7,6 @@ use lib.Seq.{length-take-le}
 use Rattle.form_text.proofs.cut.Statement.{statement}
 use Rattle.form_text.proofs.cut.Tie as tie
 
-mul-words : tie.Need-mul-words
-mul-words c = search needs
-
 slice-aggregate-form : tie.Need-slice-aggregate-form
 slice-aggregate-form c = sym (length-take-le _ _ (omega arith))
 
@@ -33,21 +30,9 @@ form-requires c κs =
     let b = length-take-le count (a .bpms .now) (omega arith) in
     (s .pre .0, s .pre .1, s .pre .2, omega arith, omega arith, omega arith, omega arith)
 
-same-length : tie.Need-same-length
-same-length c = search needs
-
 returns : tie.Need-returns
 returns c = c .before .before .form .ensures
 
 pub cut-spec : {M : Type 1} → statement M
 cut-spec =
-    tie.close
-    (tie.spec
-    mul-words
-    slice-aggregate-form
-    slice-aggregate-form-2
-    slice-aggregate-form-3
-    slice-aggregate-form-4
-    form-requires
-    same-length
-    returns)
+    tie.close (tie.spec (λ c. search needs) slice-aggregate-form slice-aggregate-form-2 slice-aggregate-form-3 slice-aggregate-form-4 form-requires (λ c. search needs) returns)

@@ -7,21 +7,6 @@ use Rattle.form_text.proofs.Files.{other-is, form-is}
 use Rattle.form_text.proofs.form_of.Statement.{statement}
 use Rattle.form_text.proofs.form_of.Tie as tie
 
-read-score-requires : tie.Need-read-score-requires
-read-score-requires c κs = search needs
-
-enum-told : tie.Need-enum-told
-enum-told c = search needs
-
-slice-aggregate-bytes : tie.Need-slice-aggregate-bytes
-slice-aggregate-bytes c = search needs
-
-bytes-requires : tie.Need-bytes-requires
-bytes-requires c κs = search needs
-
-enum-known-score : tie.Need-enum-known-score
-enum-known-score c = search needs
-
 form-requires : tie.Need-form-requires
 form-requires c κs =
     let bound = c .before .before .before .before .before .before in
@@ -44,13 +29,4 @@ returns-2 c =
 
 pub form-of-spec : {M : Type 1} → statement M
 form-of-spec =
-    tie.close
-    (tie.spec
-    read-score-requires
-    enum-told
-    slice-aggregate-bytes
-    bytes-requires
-    enum-known-score
-    form-requires
-    returns
-    returns-2)
+    tie.close (tie.spec (λ c κs. search needs) (λ c. search needs) (λ c. search needs) (λ c κs. search needs) (λ c. search needs) form-requires returns returns-2)

@@ -11,21 +11,6 @@ use Rattle.splits.specs.Splits.{words}
 use Rattle.items.proofs.of_line.Statement.{statement}
 use Rattle.items.proofs.of_line.Tie as tie
 
-until-requires : tie.Need-until-requires
-until-requires c κs = search needs
-
-sub-of-body : tie.Need-sub-of-body
-sub-of-body c = omega arith
-
-part-of-body-start : tie.Need-part-of-body-start
-part-of-body-start c = omega arith
-
-part-of-body-end : tie.Need-part-of-body-end
-part-of-body-end c = omega arith
-
-of-body-requires : tie.Need-of-body-requires
-of-body-requires c κs = search needs
-
 returns : tie.Need-returns
 returns c =
     let line = c .before .before .before .before .args .line .now in
@@ -35,11 +20,4 @@ returns c =
 
 pub of-line-spec : {M : Type 1} → statement M
 of-line-spec =
-    tie.close
-    (tie.spec
-    until-requires
-    sub-of-body
-    part-of-body-start
-    part-of-body-end
-    of-body-requires
-    returns)
+    tie.close (tie.spec (λ c κs. search needs) (λ c. omega arith) (λ c. omega arith) (λ c. omega arith) (λ c κs. search needs) returns)

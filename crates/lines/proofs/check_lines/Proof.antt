@@ -8,9 +8,6 @@ use Rattle.lines.proofs.check_lines.Tie as tie
 returns : tie.Need-returns
 returns c = simp (lt-leb _ _ (c .if1 .taken))
 
-ascending-requires : tie.Need-ascending-requires
-ascending-requires c κs = search needs
-
 returns-2 : tie.Need-returns-2
 returns-2 c = simp (le-leb _ _ (c .before .before .if1 .left), sym (c .before .ascending .ensures) ∙ c .if2 .taken)
 
@@ -18,4 +15,5 @@ returns-3 : tie.Need-returns-3
 returns-3 c = simp (le-leb _ _ (c .before .before .if1 .left), sym (c .before .ascending .ensures) ∙ c .if2 .left)
 
 pub check-lines-spec : {M : Type 1} → statement M
-check-lines-spec = tie.close (tie.spec returns ascending-requires returns-2 returns-3)
+check-lines-spec =
+    tie.close (tie.spec returns (λ c κs. search needs) returns-2 returns-3)

@@ -12,16 +12,10 @@ returns c = rw (ne-eqb _ _ (c .if1 .taken))
 returns-2 : tie.Need-returns-2
 returns-2 c = rw (eq-eqb _ _ (c .before .if1 .left), lt-leb _ _ (c .if2 .taken))
 
-is-sound-requires : tie.Need-is-sound-requires
-is-sound-requires c κs = search needs
-
 returns-3 : tie.Need-returns-3
 returns-3 c =
     let t = c .before .before in
     rw (eq-eqb _ _ (t .before .if1 .left), le-leb _ _ (t .if2 .left), sym (c .before .is-sound .ensures) ∙ not-true _ (c .if3 .taken))
-
-is-beat-requires : tie.Need-is-beat-requires
-is-beat-requires c κs = search needs
 
 returns-4 : tie.Need-returns-4
 returns-4 c =
@@ -33,9 +27,6 @@ returns-4 c =
       sym (p .is-sound .ensures) ∙ not-false _ (c .before .before .if3 .left),
       sym (c .before .is-beat .ensures) ∙ not-true _ (c .if4 .taken),
     )
-
-elapsed-requires : tie.Need-elapsed-requires
-elapsed-requires c κs = search needs
 
 returns-5 : tie.Need-returns-5
 returns-5 c =
@@ -51,13 +42,4 @@ returns-5 c =
 
 pub bar-count-at-beat-spec : {M : Type 1} → statement M
 bar-count-at-beat-spec =
-    tie.close
-    (tie.spec
-    returns
-    returns-2
-    is-sound-requires
-    returns-3
-    is-beat-requires
-    returns-4
-    elapsed-requires
-    returns-5)
+    tie.close (tie.spec returns returns-2 (λ c κs. search needs) returns-3 (λ c κs. search needs) returns-4 (λ c κs. search needs) returns-5)

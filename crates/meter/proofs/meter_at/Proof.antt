@@ -12,11 +12,9 @@ returns c = rw (ne-eqb _ _ (c .if1 .taken))
 returns-2 : tie.Need-returns-2
 returns-2 c = rw (eq-eqb _ _ (c .before .if1 .left), lt-leb _ _ (c .if2 .taken))
 
-meter-requires : tie.Need-meter-requires
-meter-requires c κs = search needs
-
 returns-3 : tie.Need-returns-3
 returns-3 c = rw (eq-eqb _ _ (c .before .before .if1 .left), le-leb _ _ (c .before .if2 .left)) (ap accepted (c .meter .ensures))
 
 pub meter-at-spec : {M : Type 1} → statement M
-meter-at-spec = tie.close (tie.spec returns returns-2 meter-requires returns-3)
+meter-at-spec =
+    tie.close (tie.spec returns returns-2 (λ c κs. search needs) returns-3)

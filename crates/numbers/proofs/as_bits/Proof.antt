@@ -11,24 +11,12 @@ use Rattle.numbers.proofs.Bits.{size-below, bits-below, bits-above}
 use Rattle.numbers.proofs.as_bits.Statement.{statement}
 use Rattle.numbers.proofs.as_bits.Tie as tie
 
-negative-requires : tie.Need-negative-requires
-negative-requires c κs = search needs
-
-magnitude-requires : tie.Need-magnitude-requires
-magnitude-requires c κs = search needs
-
 sub-result : tie.Need-sub-result
 sub-result c =
     let s = c .before .before .before in
     let x = toZ-ofZ w64 (s .args .x) (s .fits .x) in
     let t = sym (c .before .before .negative .ensures ∙ ap isNeg x) ∙ c .before .if1 .taken in
     omega (arith, size-below (s .args .x) t, c .magnitude .ensures ∙ ap natAbs x)
-
-sub-result-2 : tie.Need-sub-result-2
-sub-result-2 c = search needs
-
-magnitude-requires-2 : tie.Need-magnitude-requires-2
-magnitude-requires-2 c κs = search needs
 
 returns : tie.Need-returns
 returns c =
@@ -47,12 +35,4 @@ returns-2 c =
 
 pub as-bits-spec : {M : Type 1} → statement M
 as-bits-spec =
-    tie.close
-    (tie.spec
-    negative-requires
-    magnitude-requires
-    sub-result
-    sub-result-2
-    magnitude-requires-2
-    returns
-    returns-2)
+    tie.close (tie.spec (λ c κs. search needs) (λ c κs. search needs) sub-result (λ c. search needs) (λ c κs. search needs) returns returns-2)

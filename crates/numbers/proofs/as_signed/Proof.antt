@@ -7,18 +7,6 @@ use Rattle.numbers.proofs.Bits.{signed-low, signed-high}
 use Rattle.numbers.proofs.as_signed.Statement.{statement}
 use Rattle.numbers.proofs.as_signed.Tie as tie
 
-signed-requires : tie.Need-signed-requires
-signed-requires c κs = search needs
-
-sub-signed : tie.Need-sub-signed
-sub-signed c = search needs
-
-add-signed : tie.Need-add-signed
-add-signed c = search needs
-
-signed-requires-2 : tie.Need-signed-requires-2
-signed-requires-2 c κs = search needs
-
 returns : tie.Need-returns
 returns c =
     toZ-ofZ w64 (c .signed .result) (record { sfits = c .signed .ok })
@@ -33,4 +21,4 @@ returns-2 c =
 
 pub as-signed-spec : {M : Type 1} → statement M
 as-signed-spec =
-    tie.close (tie.spec signed-requires sub-signed add-signed signed-requires-2 returns returns-2)
+    tie.close (tie.spec (λ c κs. search needs) (λ c. search needs) (λ c. search needs) (λ c κs. search needs) returns returns-2)

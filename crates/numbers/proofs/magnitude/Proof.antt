@@ -29,8 +29,6 @@ returns c =
     let s = c .before in
     rw (flipped-read (s .args .x) (s .fits .x) (c .if1 .taken)) (sym (neg-abs (s .args .x) (s .fits .x) (c .if1 .taken)))
 
-returns-2 : tie.Need-returns-2
-returns-2 c = search needs
-
 pub magnitude-spec : {M : Type 1} → statement M
-magnitude-spec = tie.close (tie.spec sub-result cast-result add-result cast-result-2 returns returns-2)
+magnitude-spec =
+    tie.close (tie.spec sub-result cast-result add-result cast-result-2 returns (λ c. search needs))

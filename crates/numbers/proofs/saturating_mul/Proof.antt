@@ -7,14 +7,9 @@ use Rattle.numbers.proofs.Words.{size-wide}
 use Rattle.numbers.proofs.saturating_mul.Statement.{statement}
 use Rattle.numbers.proofs.saturating_mul.Tie as tie
 
-product-requires : tie.Need-product-requires
-product-requires c κs = search needs
-
-or-most-requires : tie.Need-or-most-requires
-or-most-requires c κs = search needs
-
 returns : tie.Need-returns
 returns c = c .or-most .ensures ∙ ap (λ (n : ℕ). min n (2 ^ 64 - 1)) (ap sizeOf (c .before .product .ensures) ∙ size-wide _)
 
 pub saturating-mul-spec : {M : Type 1} → statement M
-saturating-mul-spec = tie.close (tie.spec product-requires or-most-requires returns)
+saturating-mul-spec =
+    tie.close (tie.spec (λ c κs. search needs) (λ c κs. search needs) returns)

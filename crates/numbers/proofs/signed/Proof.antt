@@ -11,26 +11,11 @@ use Rattle.numbers.proofs.Signs.{flip-read, stopped-neg, read-pos}
 use Rattle.numbers.proofs.signed.Statement.{statement}
 use Rattle.numbers.proofs.signed.Tie as tie
 
-sub-below-half : tie.Need-sub-below-half
-sub-below-half c = search needs
-
-below-half-requires : tie.Need-below-half-requires
-below-half-requires c κs = search needs
-
-cast-result : tie.Need-cast-result
-cast-result c = search needs
-
 small : (c : tie.After-below-half) → c .below-half .result < 2 ^ 63
 small c = omega (arith, c .below-half .ensures)
 
 sub-result : tie.Need-sub-result
 sub-result c = rw (flip-read (c .below-half .result) (small c)) (record { sfits = small c })
-
-below-half-requires-2 : tie.Need-below-half-requires-2
-below-half-requires-2 c κs = search needs
-
-cast-result-2 : tie.Need-cast-result-2
-cast-result-2 c = search needs
 
 returns : tie.Need-returns
 returns c = rw (c .before .if1 .taken, c .if2 .taken)
@@ -51,14 +36,4 @@ returns-3 c =
 
 pub signed-spec : {M : Type 1} → statement M
 signed-spec =
-    tie.close
-    (tie.spec
-    sub-below-half
-    below-half-requires
-    cast-result
-    sub-result
-    below-half-requires-2
-    cast-result-2
-    returns
-    returns-2
-    returns-3)
+    tie.close (tie.spec (λ c. search needs) (λ c κs. search needs) (λ c. search needs) sub-result (λ c κs. search needs) (λ c. search needs) returns returns-2 returns-3)

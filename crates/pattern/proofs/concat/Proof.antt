@@ -28,9 +28,6 @@ all c = let a = start c .args in joined (totalSteps (a .a .bars) (a .steps-per-b
 count : (c : tie.Else1) → 4 * length (all c) ≡ length (start c .args .words .now) + length (start c .args .more .now)
 count c = count-joined (start c .args .words .now) (start c .args .more .now) (both c) _
 
-refusal-of-two-requires : tie.Need-refusal-of-two-requires
-refusal-of-two-requires c κs = search needs
-
 by-number-requires : tie.Need-by-number-requires
 by-number-requires c κs =
     let s = c .before .before .before .before .before .args in
@@ -39,28 +36,13 @@ by-number-requires c κs =
 returns : tie.Need-returns
 returns c = let k = c .before .before in by-number _ _ (k .refusal-of-two .result) (k .refusal-of-two .ensures) (c .before .if1 .taken) (c .by-number .result) (c .by-number .ensures)
 
-add-size : tie.Need-add-size
-add-size c = search needs
-
 returns-2 : tie.Need-returns-2
 returns-2 c =
     let t = c .before in
     no-room _ (all t) _ _ (passed _ _ (t .before .refusal-of-two .result) (t .before .refusal-of-two .ensures) (t .if1 .left)) (omega (arith, count t))
 
-total-requires : tie.Need-total-requires
-total-requires c κs = search needs
-
 join-requires : tie.Need-join-requires
 join-requires c κs = let b = both (c .before .before .before) in (b .first .even, b .second .even, omega arith)
-
-sum-bars-requires : tie.Need-sum-bars-requires
-sum-bars-requires c κs = search needs
-
-wrote-requires : tie.Need-wrote-requires
-wrote-requires c κs = search needs
-
-same-length : tie.Need-same-length
-same-length c = search needs
 
 returns-3 : tie.Need-returns-3
 returns-3 c =
@@ -79,15 +61,5 @@ returns-3 c =
 pub concat-spec : {M : Type 1} → statement M
 concat-spec =
     tie.close
-    (tie.spec
-    refusal-of-two-requires
-    by-number-requires
-    returns
-    add-size
-    returns-2
-    total-requires
-    join-requires
-    sum-bars-requires
-    wrote-requires
-    same-length
-    returns-3)
+    (tie.spec (λ c κs. search needs) by-number-requires returns (λ c. search needs) returns-2 (λ c κs. search needs) join-requires (λ c κs. search needs) (λ c κs. search needs)
+    (λ c. search needs) returns-3)

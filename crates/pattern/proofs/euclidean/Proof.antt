@@ -52,18 +52,6 @@ returns-3 c =
 fill-requires : tie.Need-fill-requires
 fill-requires c κs = let m = c .before .before in ((refl, m .if2 .left), omega arith)
 
-mul-wrote : tie.Need-mul-wrote
-mul-wrote c = search needs
-
-bars-for-requires : tie.Need-bars-for-requires
-bars-for-requires c κs = search needs
-
-wrote-requires : tie.Need-wrote-requires
-wrote-requires c κs = search needs
-
-same-length : tie.Need-same-length
-same-length c = search needs
-
 returns-4 : tie.Need-returns-4
 returns-4 c =
     let p = c .before .before .before .before in
@@ -75,14 +63,4 @@ returns-4 c =
 
 pub euclidean-spec : {M : Type 1} → statement M
 euclidean-spec =
-    tie.close
-    (tie.spec
-    returns
-    returns-2
-    returns-3
-    fill-requires
-    mul-wrote
-    bars-for-requires
-    wrote-requires
-    same-length
-    returns-4)
+    tie.close (tie.spec returns returns-2 returns-3 fill-requires (λ c. search needs) (λ c κs. search needs) (λ c κs. search needs) (λ c. search needs) returns-4)

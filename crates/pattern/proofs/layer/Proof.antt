@@ -34,9 +34,6 @@ count c = count-both (start c .args .words .now) (start c .args .more .now) (bot
 plain : (c : tie.Else1) → map (later 0) (notesOf (start c .args .more .now)) ≡ notesOf (start c .args .more .now)
 plain c = later-zero (start c .args .more .now) (λ i. c .before .before .before .shared-slice-known2 .given i .fits)
 
-refusal-of-two-requires : tie.Need-refusal-of-two-requires
-refusal-of-two-requires c κs = search needs
-
 by-number-requires : tie.Need-by-number-requires
 by-number-requires c κs =
     let s = c .before .before .before .before .before .args in
@@ -45,9 +42,6 @@ by-number-requires c κs =
 returns : tie.Need-returns
 returns c = let k = c .before .before in by-number _ _ (k .refusal-of-two .result) (k .refusal-of-two .ensures) (c .before .if1 .taken) (c .by-number .result) (c .by-number .ensures)
 
-add-size : tie.Need-add-size
-add-size c = search needs
-
 returns-2 : tie.Need-returns-2
 returns-2 c =
     let t = c .before in
@@ -55,9 +49,6 @@ returns-2 c =
 
 join-requires : tie.Need-join-requires
 join-requires c κs = let b = both (c .before .before) in (b .first .even, b .second .even, omega arith)
-
-slice-relend-prefix-sort-by-step : tie.Need-slice-relend-prefix-sort-by-step
-slice-relend-prefix-sort-by-step c = search needs
 
 slice-aggregate-sort-by-step : tie.Need-slice-aggregate-sort-by-step
 slice-aggregate-sort-by-step c =
@@ -73,15 +64,6 @@ sort-by-step-requires c κs =
     let l = length-take-le (length (a .words .now) + length (a .more .now)) (p .join .last .1 .1 .1 .0) (omega arith) in
     let b = both t in
     omega (arith, l)
-
-larger-requires : tie.Need-larger-requires
-larger-requires c κs = search needs
-
-wrote-requires : tie.Need-wrote-requires
-wrote-requires c κs = search needs
-
-same-length : tie.Need-same-length
-same-length c = search needs
 
 returns-3 : tie.Need-returns-3
 returns-3 c =
@@ -102,17 +84,5 @@ returns-3 c =
 pub layer-spec : {M : Type 1} → statement M
 layer-spec =
     tie.close
-    (tie.spec
-    refusal-of-two-requires
-    by-number-requires
-    returns
-    add-size
-    returns-2
-    join-requires
-    slice-relend-prefix-sort-by-step
-    slice-aggregate-sort-by-step
-    sort-by-step-requires
-    larger-requires
-    wrote-requires
-    same-length
-    returns-3)
+    (tie.spec (λ c κs. search needs) by-number-requires returns (λ c. search needs) returns-2 join-requires (λ c. search needs) slice-aggregate-sort-by-step sort-by-step-requires
+    (λ c κs. search needs) (λ c κs. search needs) (λ c. search needs) returns-3)

@@ -29,9 +29,6 @@ all c = let a = start c .args in copiesFrom (totalSteps (a .p .bars) (a .steps-p
 count : (c : tie.Else1) → 4 * length (all c) ≡ length (start c .args .words .now) * start c .args .times
 count c = count-copies (start c .args .words .now) _ (start c .args .times) (whole c .even)
 
-refusal-of-one-requires : tie.Need-refusal-of-one-requires
-refusal-of-one-requires c κs = search needs
-
 by-number-requires : tie.Need-by-number-requires
 by-number-requires c κs = refusal-of-one-is (c .before .refusal-of-one .result) (c .if1 .taken) (length (c .before .before .before .before .args .words .now)) (c .before .refusal-of-one .ensures)
 
@@ -46,20 +43,8 @@ returns-2 c =
     let t = c .before in
     no-room _ (all t) _ _ (passed _ _ (t .before .refusal-of-one .result) (t .before .refusal-of-one .ensures) (t .if1 .left)) (omega (arith, count t))
 
-total-requires : tie.Need-total-requires
-total-requires c κs = search needs
-
 copies-requires : tie.Need-copies-requires
 copies-requires c κs = (whole (c .before .before .before) .even, c .before .before .if2 .left)
-
-times-bars-requires : tie.Need-times-bars-requires
-times-bars-requires c κs = search needs
-
-wrote-requires : tie.Need-wrote-requires
-wrote-requires c κs = search needs
-
-same-length : tie.Need-same-length
-same-length c = search needs
 
 returns-3 : tie.Need-returns-3
 returns-3 c =
@@ -76,15 +61,5 @@ returns-3 c =
 pub repeat-spec : {M : Type 1} → statement M
 repeat-spec =
     tie.close
-    (tie.spec
-    refusal-of-one-requires
-    by-number-requires
-    returns
-    mul-size
-    returns-2
-    total-requires
-    copies-requires
-    times-bars-requires
-    wrote-requires
-    same-length
-    returns-3)
+    (tie.spec (λ c κs. search needs) by-number-requires returns mul-size returns-2 (λ c κs. search needs) copies-requires (λ c κs. search needs) (λ c κs. search needs)
+    (λ c. search needs) returns-3)

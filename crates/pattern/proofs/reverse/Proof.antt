@@ -8,15 +8,6 @@ use Rattle.pattern.specs.Readings.{Outcome}
 use Rattle.pattern.proofs.reverse.Tie as tie
 use Rattle.pattern.proofs.reverse.Statement.{statement}
 
-total-requires : tie.Need-total-requires
-total-requires c κs = search needs
-
-each-sorted-requires : tie.Need-each-sorted-requires
-each-sorted-requires c κs = search needs
-
-same-length : tie.Need-same-length
-same-length c = search needs
-
 returns : tie.Need-returns
 returns c =
     let e = c .before .before in
@@ -26,4 +17,5 @@ returns c =
     (t .total .ensures) (e .each-sorted .ensures)
 
 pub reverse-spec : {M : Type 1} → statement M
-reverse-spec = tie.close (tie.spec total-requires each-sorted-requires same-length returns)
+reverse-spec =
+    tie.close (tie.spec (λ c κs. search needs) (λ c κs. search needs) (λ c. search needs) returns)

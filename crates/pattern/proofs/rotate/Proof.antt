@@ -11,15 +11,6 @@ use Rattle.pattern.specs.Readings.{Outcome}
 use Rattle.pattern.proofs.rotate.Tie as tie
 use Rattle.pattern.proofs.rotate.Statement.{statement}
 
-total-requires : tie.Need-total-requires
-total-requires c κs = search needs
-
-each-sorted-requires : tie.Need-each-sorted-requires
-each-sorted-requires c κs = search needs
-
-same-length : tie.Need-same-length
-same-length c = search needs
-
 returns : tie.Need-returns
 returns c =
     let e = c .before .before in
@@ -30,4 +21,5 @@ returns c =
     subst (outcome (a .shift)) (t .total .ensures) (subst (λ (shift : ℤ). outcome shift (t .total .result)) (toZ-ofZ w64 (a .shift) (s .fits .shift)) (e .each-sorted .ensures))
 
 pub rotate-spec : {M : Type 1} → statement M
-rotate-spec = tie.close (tie.spec total-requires each-sorted-requires same-length returns)
+rotate-spec =
+    tie.close (tie.spec (λ c κs. search needs) (λ c κs. search needs) (λ c. search needs) returns)

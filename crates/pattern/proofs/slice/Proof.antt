@@ -22,9 +22,6 @@ whole c = one (length (start c .args .words .now)) (sym (c .before .refusal-of-o
 abbrev kept : tie.Else1 → List Note
 kept c = let a = start c .args in window (a .start) (a .len) (notesOf (a .words .now))
 
-refusal-of-one-requires : tie.Need-refusal-of-one-requires
-refusal-of-one-requires c κs = search needs
-
 by-number-requires : tie.Need-by-number-requires
 by-number-requires c κs = refusal-of-one-is (c .before .refusal-of-one .result) (c .if1 .taken) (length (c .before .before .before .before .args .words .now)) (c .before .refusal-of-one .ensures)
 
@@ -45,18 +42,6 @@ write-window-requires c κs =
     let k = c .before .before in
     (whole (k .before) .even, omega (arith, k .count-window .ensures))
 
-mul-wrote : tie.Need-mul-wrote
-mul-wrote c = search needs
-
-bars-for-requires : tie.Need-bars-for-requires
-bars-for-requires c κs = search needs
-
-wrote-requires : tie.Need-wrote-requires
-wrote-requires c κs = search needs
-
-same-length : tie.Need-same-length
-same-length c = search needs
-
 returns-3 : tie.Need-returns-3
 returns-3 c =
     let p = c .before .before .before .before in
@@ -69,15 +54,5 @@ returns-3 c =
 pub slice-spec : {M : Type 1} → statement M
 slice-spec =
     tie.close
-    (tie.spec
-    refusal-of-one-requires
-    by-number-requires
-    returns
-    count-window-requires
-    returns-2
-    write-window-requires
-    mul-wrote
-    bars-for-requires
-    wrote-requires
-    same-length
-    returns-3)
+    (tie.spec (λ c κs. search needs) by-number-requires returns count-window-requires returns-2 write-window-requires (λ c. search needs) (λ c κs. search needs)
+    (λ c κs. search needs) (λ c. search needs) returns-3)

@@ -43,9 +43,6 @@ given d g e f =
     let a = start t .args in
     fits (a .p) (a .words .now) (a .num) (a .den) (t .before .refusal-of-one .result) (t .before .refusal-of-one .ensures) (t .if1 .left) (d .before .if2 .left) (d .if3 .left) (sym (ap readGrid f) ∙ e)
 
-refusal-of-one-requires : tie.Need-refusal-of-one-requires
-refusal-of-one-requires c κs = search needs
-
 by-number-requires : tie.Need-by-number-requires
 by-number-requires c κs = refusal-of-one-is (c .before .refusal-of-one .result) (c .if1 .taken) (length (c .before .before .before .before .args .words .now)) (c .before .refusal-of-one .ensures)
 
@@ -69,9 +66,6 @@ returns-3 c =
 off-grid-requires : tie.Need-off-grid-requires
 off-grid-requires c κs = (whole (c .before .before) .even, omega arith)
 
-enum-known-found : tie.Need-enum-known-found
-enum-known-found c = search needs
-
 returns-4 : tie.Need-returns-4
 returns-4 c =
     let f = c .before .found .given in
@@ -83,9 +77,6 @@ returns-4 c =
     (off (a .p) (a .words .now) (a .num) (a .den) (t .before .refusal-of-one .result) (t .before .refusal-of-one .ensures) (t .if1 .left) (d .before .if2 .left) (d .if3 .left) _ _
     (sym (ap readGrid (f .1)) ∙ g .off-grid .ensures))
     (P.OffGrid _ _ _) refl
-
-enum-told : tie.Need-enum-told
-enum-told c = search needs
 
 returns-5 : tie.Need-returns-5
 returns-5 c =
@@ -99,15 +90,6 @@ copy-requires c κs =
     let d = c .before .before .before .before .before in
     let w = whole (d .before .before) in
     (omega arith, w .even, omega arith)
-
-stretched-requires : tie.Need-stretched-requires
-stretched-requires c κs = search needs
-
-wrote-requires : tie.Need-wrote-requires
-wrote-requires c κs = search needs
-
-same-length : tie.Need-same-length
-same-length c = search needs
 
 returns-6 : tie.Need-returns-6
 returns-6 c =
@@ -125,19 +107,5 @@ returns-6 c =
 pub stretch-spec : {M : Type 1} → statement M
 stretch-spec =
     tie.close
-    (tie.spec
-    refusal-of-one-requires
-    by-number-requires
-    returns
-    returns-2
-    returns-3
-    off-grid-requires
-    enum-known-found
-    returns-4
-    enum-told
-    returns-5
-    copy-requires
-    stretched-requires
-    wrote-requires
-    same-length
-    returns-6)
+    (tie.spec (λ c κs. search needs) by-number-requires returns returns-2 returns-3 off-grid-requires (λ c. search needs) returns-4 (λ c. search needs) returns-5 copy-requires
+    (λ c κs. search needs) (λ c κs. search needs) (λ c. search needs) returns-6)

@@ -28,15 +28,6 @@ returns c =
 fill-requires : tie.Need-fill-requires
 fill-requires c κs = (refl, omega arith)
 
-mul-wrote : tie.Need-mul-wrote
-mul-wrote c = search needs
-
-wrote-requires : tie.Need-wrote-requires
-wrote-requires c κs = search needs
-
-same-length : tie.Need-same-length
-same-length c = search needs
-
 returns-2 : tie.Need-returns-2
 returns-2 c =
     let p = c .before .before .before in
@@ -47,4 +38,4 @@ returns-2 c =
 
 pub tuplet-spec : {M : Type 1} → statement M
 tuplet-spec =
-    tie.close (tie.spec returns fill-requires mul-wrote wrote-requires same-length returns-2)
+    tie.close (tie.spec returns fill-requires (λ c. search needs) (λ c κs. search needs) (λ c. search needs) returns-2)

@@ -24,15 +24,6 @@ returns c = (rw (ne-eqb _ _ (c .if1 .taken)), rw (ne-eqb _ _ (c .if1 .taken)))
 returns-2 : tie.Need-returns-2
 returns-2 c = too-many (c .before .before .before .before .args .words .now) _ (c .before .if1 .left) (c .if2 .taken)
 
-points-of-requires : tie.Need-points-of-requires
-points-of-requires c κs = search needs
-
-problems-of-requires : tie.Need-problems-of-requires
-problems-of-requires c κs = search needs
-
-same-length : tie.Need-same-length
-same-length c = search needs
-
 returns-3 : tie.Need-returns-3
 returns-3 c =
     let called = c .before .before in
@@ -40,15 +31,6 @@ returns-3 c =
     let even = eq-eqb _ _ (made .before .before .before .if1 .left) in
     let told = called .problems-of .ensures in
     (rw (even, sym (made .points-of .ensures)) (told .0), rw (even, sym (made .points-of .ensures)) (told .1))
-
-points-of-requires-2 : tie.Need-points-of-requires-2
-points-of-requires-2 c κs = search needs
-
-problems-of-requires-2 : tie.Need-problems-of-requires-2
-problems-of-requires-2 c κs = search needs
-
-same-length-2 : tie.Need-same-length-2
-same-length-2 c = search needs
 
 returns-4 : tie.Need-returns-4
 returns-4 c =
@@ -61,14 +43,5 @@ returns-4 c =
 pub flat-problems-spec : {M : Type 1} → statement M
 flat-problems-spec =
     tie.close
-    (tie.spec
-    returns
-    returns-2
-    points-of-requires
-    problems-of-requires
-    same-length
-    returns-3
-    points-of-requires-2
-    problems-of-requires-2
-    same-length-2
+    (tie.spec returns returns-2 (λ c κs. search needs) (λ c κs. search needs) (λ c. search needs) returns-3 (λ c κs. search needs) (λ c κs. search needs) (λ c. search needs)
     returns-4)

@@ -5,21 +5,6 @@ use Rattle.tempo.proofs.Laws.{finding, walkable}
 use Rattle.problems.proofs.tempo_map_problems.Statement.{statement}
 use Rattle.problems.proofs.tempo_map_problems.Tie as tie
 
-test-requires : tie.Need-test-requires
-test-requires c κs = search needs
-
-enum-told : tie.Need-enum-told
-enum-told c = search needs
-
-enum-told-2 : tie.Need-enum-told-2
-enum-told-2 c = search needs
-
-enum-told-3 : tie.Need-enum-told-3
-enum-told-3 c = search needs
-
-enum-told-4 : tie.Need-enum-told-4
-enum-told-4 c = search needs
-
 list-requires : tie.Need-list-requires
 list-requires c κs =
     let a = c .before .before .before .before .before .before .before .args in
@@ -34,9 +19,6 @@ returns-2 c = let e = sym (finding _ _ _ _ (c .before .before .test .ensures)) �
 returns-3 : tie.Need-returns-3
 returns-3 c = let e = sym (finding _ _ _ _ (c .before .before .test .ensures)) ∙ c .enum-told3 .given .1 in (rw e, rw e)
 
-same-length : tie.Need-same-length
-same-length c = search needs
-
 returns-4 : tie.Need-returns-4
 returns-4 c =
     let e = sym (finding _ _ _ _ (c .before .before .before .before .before .before .test .ensures)) ∙ c .before .before .before .before .enum-told4 .given .1 in
@@ -46,15 +28,5 @@ returns-4 c =
 pub tempo-map-problems-spec : {M : Type 1} → statement M
 tempo-map-problems-spec =
     tie.close
-    (tie.spec
-    test-requires
-    enum-told
-    enum-told-2
-    enum-told-3
-    enum-told-4
-    list-requires
-    returns
-    returns-2
-    returns-3
-    same-length
+    (tie.spec (λ c κs. search needs) (λ c. search needs) (λ c. search needs) (λ c. search needs) (λ c. search needs) list-requires returns returns-2 returns-3 (λ c. search needs)
     returns-4)

@@ -7,15 +7,10 @@ use Rattle.rounding.proofs.Signs.{narrow}
 use Rattle.rounding.proofs.cut_to_u32.Statement.{statement}
 use Rattle.rounding.proofs.cut_to_u32.Tie as tie
 
-cut-to-u64-requires : tie.Need-cut-to-u64-requires
-cut-to-u64-requires c κs = search needs
-
-to-u32-requires : tie.Need-to-u32-requires
-to-u32-requires c κs = search needs
-
 returns : tie.Need-returns
 returns c =
     c .to-u32 .ensures ∙ ap (λ (n : ℕ). min n 4294967295) (c .before .cut-to-u64 .ensures) ∙ sym (narrow 32 64 (lit≤ tt) (c .before .before .args .x))
 
 pub cut-to-u32-spec : {M : Type 1} → statement M
-cut-to-u32-spec = tie.close (tie.spec cut-to-u64-requires to-u32-requires returns)
+cut-to-u32-spec =
+    tie.close (tie.spec (λ c κs. search needs) (λ c κs. search needs) returns)

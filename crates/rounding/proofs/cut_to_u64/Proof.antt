@@ -5,12 +5,6 @@ use Rattle.rounding.proofs.Signs.{minus-none, plain-own}
 use Rattle.rounding.proofs.cut_to_u64.Statement.{statement}
 use Rattle.rounding.proofs.cut_to_u64.Tie as tie
 
-negative-requires : tie.Need-negative-requires
-negative-requires c κs = search needs
-
-whole-size-requires : tie.Need-whole-size-requires
-whole-size-requires c κs = search needs
-
 returns : tie.Need-returns
 returns c = minus-none 64 (c .before .before .args .x) (sym (c .before .negative .ensures) ∙ c .if1 .taken)
 
@@ -18,4 +12,5 @@ returns-2 : tie.Need-returns-2
 returns-2 c = c .whole-size .ensures ∙ plain-own 64 (c .before .before .before .args .x) (sym (c .before .before .negative .ensures) ∙ c .before .if1 .left)
 
 pub cut-to-u64-spec : {M : Type 1} → statement M
-cut-to-u64-spec = tie.close (tie.spec negative-requires whole-size-requires returns returns-2)
+cut-to-u64-spec =
+    tie.close (tie.spec (λ c κs. search needs) (λ c κs. search needs) returns returns-2)

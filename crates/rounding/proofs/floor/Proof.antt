@@ -31,31 +31,10 @@ turned-word c = c .f64-word2 .ensures ∙ ap (λ (y : Float). toBits binary64 (n
 returns : tie.Need-returns
 returns c = floor-nan (c .before .args .x) (is-nan (c .before .args .x) (c .if1 .taken))
 
-whole-size-requires : tie.Need-whole-size-requires
-whole-size-requires c κs = search needs
-
 returns-2 : tie.Need-returns-2
 returns-2 c =
     let size = c .before in
     floor-large (size .before .before .args .x) (held (size .before .before)) (rw (size .whole-size .ensures) at (c .if2 .taken))
-
-nearest-u64-to-f64-requires : tie.Need-nearest-u64-to-f64-requires
-nearest-u64-to-f64-requires c κs = search needs
-
-negative-requires : tie.Need-negative-requires
-negative-requires c κs = search needs
-
-f64-word-requires : tie.Need-f64-word-requires
-f64-word-requires c κs = search needs
-
-f64-word-requires-2 : tie.Need-f64-word-requires-2
-f64-word-requires-2 c κs = search needs
-
-add-nearest-u64-to-f64 : tie.Need-add-nearest-u64-to-f64
-add-nearest-u64-to-f64 c = search needs
-
-nearest-u64-to-f64-requires-2 : tie.Need-nearest-u64-to-f64-requires-2
-nearest-u64-to-f64-requires-2 c κs = search needs
 
 returns-3 : tie.Need-returns-3
 returns-3 c =
@@ -81,16 +60,5 @@ returns-5 c =
 pub floor-spec : {M : Type 1} → statement M
 floor-spec =
     tie.close
-    (tie.spec
-    returns
-    whole-size-requires
-    returns-2
-    nearest-u64-to-f64-requires
-    negative-requires
-    f64-word-requires
-    f64-word-requires-2
-    add-nearest-u64-to-f64
-    nearest-u64-to-f64-requires-2
-    returns-3
-    returns-4
-    returns-5)
+    (tie.spec returns (λ c κs. search needs) returns-2 (λ c κs. search needs) (λ c κs. search needs) (λ c κs. search needs) (λ c κs. search needs) (λ c. search needs)
+    (λ c κs. search needs) returns-3 returns-4 returns-5)

@@ -15,12 +15,6 @@ held-x c = subst T (sym (c .good .0 .1)) tt
 held-y : (c : tie.Start) → T (fits binary64 (c .args .y))
 held-y c = subst T (sym (c .good .1 .0 .1)) tt
 
-place-requires : tie.Need-place-requires
-place-requires c κs = search needs
-
-place-requires-2 : tie.Need-place-requires-2
-place-requires-2 c κs = search needs
-
 returns : tie.Need-returns
 returns c =
     let start = c .before .before .before in
@@ -32,4 +26,5 @@ returns-2 c =
     max-first binary64 (start .args .x) (start .args .y) (held-x start) (held-y start) (omega arith)
 
 pub max-f64-spec : {M : Type 1} → statement M
-max-f64-spec = tie.close (tie.spec place-requires place-requires-2 returns returns-2)
+max-f64-spec =
+    tie.close (tie.spec (λ c κs. search needs) (λ c κs. search needs) returns returns-2)

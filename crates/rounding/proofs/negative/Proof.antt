@@ -8,11 +8,9 @@ use Rattle.rounding.proofs.Places.{sign-place}
 use Rattle.rounding.proofs.negative.Statement.{statement}
 use Rattle.rounding.proofs.negative.Tie as tie
 
-f64-word-requires : tie.Need-f64-word-requires
-f64-word-requires c κs = search needs
-
 returns : tie.Need-returns
 returns c = ap (λ (word : ℕ). ltb (2 ^ 63 - 1) word) (c .f64-word .ensures) ∙ sign-place binary64 (c .before .args .x) (subst T (sym (c .before .good .0 .1)) tt)
 
 pub negative-spec : {M : Type 1} → statement M
-negative-spec = tie.close (tie.spec f64-word-requires returns)
+negative-spec =
+    tie.close (tie.spec (λ c κs. search needs) returns)

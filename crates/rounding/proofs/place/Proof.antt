@@ -25,16 +25,10 @@ returns c = place-nan binary64 (c .before .args .x) (is-nan (c .before .args .x)
 float-to-bits-bits : tie.Need-float-to-bits-bits
 float-to-bits-bits c = number c
 
-sub-result : tie.Need-sub-result
-sub-result c = search needs
-
 sub-result-2 : tie.Need-sub-result-2
 sub-result-2 c =
     let h : toBits binary64 (c .before .before .args .x) < 2 ^ 64 = toBits-lt binary64 (c .before .before .args .x) (held (c .before .before)) in
     omega arith
-
-add-result : tie.Need-add-result
-add-result c = search needs
 
 returns-2 : tie.Need-returns-2
 returns-2 c = place-minus binary64 (c .before .before .args .x) (held (c .before .before)) (number (c .before)) (c .if2 .taken)
@@ -44,5 +38,4 @@ returns-3 c = place-plus binary64 (c .before .before .args .x) (held (c .before 
 
 pub place-spec : {M : Type 1} → statement M
 place-spec =
-    tie.close
-    (tie.spec returns float-to-bits-bits sub-result sub-result-2 add-result returns-2 returns-3)
+    tie.close (tie.spec returns float-to-bits-bits (λ c. search needs) sub-result-2 (λ c. search needs) returns-2 returns-3)

@@ -11,15 +11,6 @@ use Rattle.rounding.proofs.Signs.{stopped, at-i64, signed-by, round-sig
 use Rattle.rounding.proofs.round_to_i64.Statement.{statement}
 use Rattle.rounding.proofs.round_to_i64.Tie as tie
 
-negative-requires : tie.Need-negative-requires
-negative-requires c κs = search needs
-
-whole-size-requires : tie.Need-whole-size-requires
-whole-size-requires c κs = search needs
-
-signed-requires : tie.Need-signed-requires
-signed-requires c κs = search needs
-
 returns : tie.Need-returns
 returns c =
     let sign = c .before .before .negative in
@@ -33,4 +24,4 @@ returns c =
 
 pub round-to-i64-spec : {M : Type 1} → statement M
 round-to-i64-spec =
-    tie.close (tie.spec negative-requires whole-size-requires signed-requires returns)
+    tie.close (tie.spec (λ c κs. search needs) (λ c κs. search needs) (λ c κs. search needs) returns)

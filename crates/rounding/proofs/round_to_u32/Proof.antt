@@ -9,15 +9,6 @@ use Rattle.rounding.proofs.Signs.{narrow}
 use Rattle.rounding.proofs.round_to_u32.Statement.{statement}
 use Rattle.rounding.proofs.round_to_u32.Tie as tie
 
-widened-requires : tie.Need-widened-requires
-widened-requires c κs = search needs
-
-round-to-u64-requires : tie.Need-round-to-u64-requires
-round-to-u64-requires c κs = search needs
-
-to-u32-requires : tie.Need-to-u32-requires
-to-u32-requires c κs = search needs
-
 returns : tie.Need-returns
 returns c =
     let x = c .before .before .before .args .x in
@@ -26,4 +17,4 @@ returns c =
 
 pub round-to-u32-spec : {M : Type 1} → statement M
 round-to-u32-spec =
-    tie.close (tie.spec widened-requires round-to-u64-requires to-u32-requires returns)
+    tie.close (tie.spec (λ c κs. search needs) (λ c κs. search needs) (λ c κs. search needs) returns)

@@ -6,12 +6,6 @@ use Rattle.rounding.proofs.Signs.{minus-none, plain-own, round-sign}
 use Rattle.rounding.proofs.round_to_u64.Statement.{statement}
 use Rattle.rounding.proofs.round_to_u64.Tie as tie
 
-negative-requires : tie.Need-negative-requires
-negative-requires c κs = search needs
-
-whole-size-requires : tie.Need-whole-size-requires
-whole-size-requires c κs = search needs
-
 returns : tie.Need-returns
 returns c =
     let x = c .before .before .args .x in
@@ -23,4 +17,5 @@ returns-2 c =
     c .whole-size .ensures ∙ plain-own 64 (roundAway x) (round-sign x ∙ sym (c .before .before .negative .ensures) ∙ c .before .if1 .left)
 
 pub round-to-u64-spec : {M : Type 1} → statement M
-round-to-u64-spec = tie.close (tie.spec negative-requires whole-size-requires returns returns-2)
+round-to-u64-spec =
+    tie.close (tie.spec (λ c κs. search needs) (λ c κs. search needs) returns returns-2)

@@ -31,14 +31,8 @@ returns-3 c =
     let n = c .before .before in
     too-large (n .before .args .nearest) (n .before .args .x) (held (n .before)) (number n) (c .if3 .taken)
 
-cast-half : tie.Need-cast-half
-cast-half c = search needs
-
 shl-result : tie.Need-shl-result
 shl-result c = lt-of-le-of-lt (at-most-one (c .before .before .before .before .args .nearest)) (lit< tt)
-
-shr-result : tie.Need-shr-result
-shr-result c = search needs
 
 add-result : tie.Need-add-result
 add-result c =
@@ -47,12 +41,6 @@ add-result c =
 
 shr-result-2 : tie.Need-shr-result-2
 shr-result-2 c = lt-of-le-of-lt (at-most-one (c .before .before .before .before .args .nearest)) (lit< tt)
-
-sub-result : tie.Need-sub-result
-sub-result c = search needs
-
-shl-result-2 : tie.Need-shl-result-2
-shl-result-2 c = search needs
 
 returns-4 : tie.Need-returns-4
 returns-4 c =
@@ -67,17 +55,5 @@ returns-5 c =
 pub whole-size-spec : {M : Type 1} → statement M
 whole-size-spec =
     tie.close
-    (tie.spec
-    returns
-    float-to-bits-bits
-    returns-2
-    returns-3
-    cast-half
-    shl-result
-    shr-result
-    add-result
-    shr-result-2
-    sub-result
-    shl-result-2
-    returns-4
-    returns-5)
+    (tie.spec returns float-to-bits-bits returns-2 returns-3 (λ c. search needs) shl-result (λ c. search needs) add-result shr-result-2 (λ c. search needs) (λ c. search needs)
+    returns-4 returns-5)

@@ -3,11 +3,9 @@ use borrow.Author.Needs.{needs}
 use Rattle.rounding.proofs.widened.Statement.{statement}
 use Rattle.rounding.proofs.widened.Tie as tie
 
-f32-to-f64-with-nan-requires : tie.Need-f32-to-f64-with-nan-requires
-f32-to-f64-with-nan-requires c κs = search needs
-
 returns : tie.Need-returns
 returns c = c .f32-to-f64-with-nan .ensures
 
 pub widened-spec : {M : Type 1} → statement M
-widened-spec = tie.close (tie.spec f32-to-f64-with-nan-requires returns)
+widened-spec =
+    tie.close (tie.spec (λ c κs. search needs) returns)

@@ -12,32 +12,14 @@ use Rattle.score.proofs.is_score.Tie as tie
 returns : tie.Need-returns
 returns c = short _ (c .if1 .taken)
 
-laid-out-requires : tie.Need-laid-out-requires
-laid-out-requires c κs = search needs
-
 returns-2 : tie.Need-returns-2
 returns-2 c = not-laid _ (c .before .before .if1 .left) (sym (c .before .laid-out .ensures) ∙ not-true _ (c .if2 .taken))
-
-pickup-good-requires : tie.Need-pickup-good-requires
-pickup-good-requires c κs = search needs
 
 returns-3 : tie.Need-returns-3
 returns-3 c =
     let second = c .before .before in
     not-pickup _ (second .before .before .if1 .left) (sym (second .before .laid-out .ensures) ∙ not-false _ (second .if2 .left))
     (sym (c .before .pickup-good .ensures) ∙ not-true _ (c .if3 .taken))
-
-word-at-requires : tie.Need-word-at-requires
-word-at-requires c κs = search needs
-
-cast-place : tie.Need-cast-place
-cast-place c = search needs
-
-word-at-requires-2 : tie.Need-word-at-requires-2
-word-at-requires-2 c κs = search needs
-
-cast-count : tie.Need-cast-count
-cast-count c = search needs
 
 beats-good-requires : tie.Need-beats-good-requires
 beats-good-requires c κs =
@@ -59,15 +41,5 @@ returns-4 c =
 pub is-score-spec : {M : Type 1} → statement M
 is-score-spec =
     tie.close
-    (tie.spec
-    returns
-    laid-out-requires
-    returns-2
-    pickup-good-requires
-    returns-3
-    word-at-requires
-    cast-place
-    word-at-requires-2
-    cast-count
-    beats-good-requires
-    returns-4)
+    (tie.spec returns (λ c κs. search needs) returns-2 (λ c κs. search needs) returns-3 (λ c κs. search needs) (λ c. search needs) (λ c κs. search needs) (λ c. search needs)
+    beats-good-requires returns-4)

@@ -18,9 +18,6 @@ numbers : (c : tie.After-word-at)
     → Known (c .before .before .before .before .before .args .bytes .now) (c .before .header .result .meters) (c .before .header .result .tempos) (c .word-at .result)
 numbers c = known _ _ _ (good (c .before .before)) (c .before .header .ensures) (c .word-at .ensures)
 
-is-score-requires : tie.Need-is-score-requires
-is-score-requires c κs = search needs
-
 returns : tie.Need-returns
 returns c =
     let bad = sym (c .before .is-score .ensures) ∙ not-true _ (c .if1 .taken) in
@@ -32,9 +29,6 @@ header-requires c κs = let l = score-laid _ (good c) in omega (arith, l)
 word-at-requires : tie.Need-word-at-requires
 word-at-requires c κs = let l = score-laid _ (good (c .before)) in omega (arith, l)
 
-cast-place : tie.Need-cast-place
-cast-place c = search needs
-
 mul-copy-words : tie.Need-mul-copy-words
 mul-copy-words c = let k = numbers c in record { fits = omega arith }
 
@@ -44,14 +38,8 @@ copy-words-requires c κs = let k = numbers (c .before) in (omega arith, omega a
 copy-numbers-requires : tie.Need-copy-numbers-requires
 copy-numbers-requires c κs = let k = numbers (c .before .before .before) in (omega arith, omega arith)
 
-add-copy-words : tie.Need-add-copy-words
-add-copy-words c = search needs
-
 copy-words-requires-2 : tie.Need-copy-words-requires-2
 copy-words-requires-2 c κs = let k = numbers (c .before .before .before .before .before) in (omega arith, omega arith, omega arith, omega arith)
-
-add-copy-words-2 : tie.Need-add-copy-words-2
-add-copy-words-2 c = search needs
 
 copy-words-requires-3 : tie.Need-copy-words-requires-3
 copy-words-requires-3 c κs = let k = numbers (c .before .before .before .before .before .before .before) in (omega arith, omega arith, omega arith, omega arith)
@@ -75,17 +63,5 @@ returns-2 c =
 pub read-score-spec : {M : Type 1} → statement M
 read-score-spec =
     tie.close
-    (tie.spec
-    is-score-requires
-    returns
-    header-requires
-    word-at-requires
-    cast-place
-    mul-copy-words
-    copy-words-requires
-    copy-numbers-requires
-    add-copy-words
-    copy-words-requires-2
-    add-copy-words-2
-    copy-words-requires-3
-    returns-2)
+    (tie.spec (λ c κs. search needs) returns header-requires word-at-requires (λ c. search needs) mul-copy-words copy-words-requires copy-numbers-requires (λ c. search needs)
+    copy-words-requires-2 (λ c. search needs) copy-words-requires-3 returns-2)

@@ -13,9 +13,6 @@ returns c = let a = c .before .before .args in many-meters (a .score) _ _ _ _ _ 
 returns-2 : tie.Need-returns-2
 returns-2 c = let a = c .before .before .before .before .args in many-tempos (a .score) _ _ _ _ _ (omega arith) (omega arith)
 
-is-sound-requires : tie.Need-is-sound-requires
-is-sound-requires c κs = search needs
-
 returns-3 : tie.Need-returns-3
 returns-3 c =
     let a = c .before .before .before .before .before .before .args in
@@ -45,13 +42,4 @@ returns-5 c =
 
 pub write-score-spec : {M : Type 1} → statement M
 write-score-spec =
-    tie.close
-    (tie.spec
-    returns
-    returns-2
-    is-sound-requires
-    returns-3
-    beats-good-requires
-    returns-4
-    write-requires
-    returns-5)
+    tie.close (tie.spec returns returns-2 (λ c κs. search needs) returns-3 beats-good-requires returns-4 write-requires returns-5)

@@ -7,21 +7,6 @@ use Rattle.sheet_text.proofs.Files.{other-is, sheet-is}
 use Rattle.sheet_text.proofs.sheet_of.Statement.{statement}
 use Rattle.sheet_text.proofs.sheet_of.Tie as tie
 
-read-score-requires : tie.Need-read-score-requires
-read-score-requires c κs = search needs
-
-enum-told : tie.Need-enum-told
-enum-told c = search needs
-
-slice-aggregate-bytes : tie.Need-slice-aggregate-bytes
-slice-aggregate-bytes c = search needs
-
-bytes-requires : tie.Need-bytes-requires
-bytes-requires c κs = search needs
-
-enum-known-score : tie.Need-enum-known-score
-enum-known-score c = search needs
-
 sheet-requires : tie.Need-sheet-requires
 sheet-requires c κs =
     let bound = c .before .before .before .before .before .before in
@@ -44,13 +29,4 @@ returns-2 c =
 
 pub sheet-of-spec : {M : Type 1} → statement M
 sheet-of-spec =
-    tie.close
-    (tie.spec
-    read-score-requires
-    enum-told
-    slice-aggregate-bytes
-    bytes-requires
-    enum-known-score
-    sheet-requires
-    returns
-    returns-2)
+    tie.close (tie.spec (λ c κs. search needs) (λ c. search needs) (λ c. search needs) (λ c κs. search needs) (λ c. search needs) sheet-requires returns returns-2)

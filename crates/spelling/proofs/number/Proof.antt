@@ -8,17 +8,8 @@ use Rattle.spelling.proofs.Ratios.{number-is}
 use Rattle.spelling.proofs.number.Statement.{statement}
 use Rattle.spelling.proofs.number.Tie as tie
 
-some-requires : tie.Need-some-requires
-some-requires c κs = search needs
-
-enum-known-n : tie.Need-enum-known-n
-enum-known-n c = search needs
-
 cast-t5 : tie.Need-cast-t5
 cast-t5 c = omega (arith, some-most _ _ _ (sym (c .before .n .given .1) ∙ c .before .before .before .some .ensures))
-
-enum-told : tie.Need-enum-told
-enum-told c = search needs
 
 returns : tie.Need-returns
 returns c = ap asNumber (sym (c .before .n .given .1) ∙ c .before .before .before .some .ensures) ∙ number-is _
@@ -27,4 +18,5 @@ returns-2 : tie.Need-returns-2
 returns-2 c = ap asNumber (sym (c .enum-told .given .1) ∙ c .before .before .some .ensures) ∙ number-is _
 
 pub number-spec : {M : Type 1} → statement M
-number-spec = tie.close (tie.spec some-requires enum-known-n cast-t5 enum-told returns returns-2)
+number-spec =
+    tie.close (tie.spec (λ c κs. search needs) (λ c. search needs) cast-t5 (λ c. search needs) returns returns-2)

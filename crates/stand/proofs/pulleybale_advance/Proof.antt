@@ -19,24 +19,6 @@ answer c =
     let a = start c .args in
     advanced-is (a .clock .now) (c .before .clock-of .result) (c .before .clock-of .ensures) (a .frames) (c .advance .result) (c .advance .ensures)
 
-clock-of-requires : tie.Need-clock-of-requires
-clock-of-requires c κs = search needs
-
-advance-requires : tie.Need-advance-requires
-advance-requires c κs = search needs
-
-enum-known-said : tie.Need-enum-known-said
-enum-known-said c = search needs
-
-place-requires : tie.Need-place-requires
-place-requires c κs = search needs
-
-flags-of-requires : tie.Need-flags-of-requires
-flags-of-requires c κs = search needs
-
-enum-told : tie.Need-enum-told
-enum-told c = search needs
-
 returns : tie.Need-returns
 returns c =
     let told = c .before .before .before .before in
@@ -57,13 +39,4 @@ returns-2 c =
 
 pub pulleybale-advance-spec : {M : Type 1} → statement M
 pulleybale-advance-spec =
-    tie.close
-    (tie.spec
-    clock-of-requires
-    advance-requires
-    enum-known-said
-    place-requires
-    flags-of-requires
-    enum-told
-    returns
-    returns-2)
+    tie.close (tie.spec (λ c κs. search needs) (λ c κs. search needs) (λ c. search needs) (λ c κs. search needs) (λ c κs. search needs) (λ c. search needs) returns returns-2)

@@ -21,24 +21,6 @@ answer c =
     counted-is (a .meter .now) (a .beats) (a .pickup-num) (a .pickup-den) (s .fits .pickup-num) (c .before .pickup-of .result) (c .before .pickup-of .ensures)
     (a .num) (a .den) (c .bar-count-at-beat .result) (s .fits .num) (c .bar-count-at-beat .ensures)
 
-pickup-of-requires : tie.Need-pickup-of-requires
-pickup-of-requires c κs = search needs
-
-bar-count-at-beat-requires : tie.Need-bar-count-at-beat-requires
-bar-count-at-beat-requires c κs = search needs
-
-enum-known-n : tie.Need-enum-known-n
-enum-known-n c = search needs
-
-enum-told : tie.Need-enum-told
-enum-told c = search needs
-
-enum-told-2 : tie.Need-enum-told-2
-enum-told-2 c = search needs
-
-enum-told-3 : tie.Need-enum-told-3
-enum-told-3 c = search needs
-
 returns : tie.Need-returns
 returns c = let e = answer (c .before .before .before) ∙ ap readCount (c .before .n .given .1) in (number-accepted e, gave _ _ e)
 
@@ -54,14 +36,4 @@ returns-4 c = let e = answer (c .before .before) ∙ ap readCount (c .enum-told3
 pub pulleybale-count-spec : {M : Type 1} → statement M
 pulleybale-count-spec =
     tie.close
-    (tie.spec
-    pickup-of-requires
-    bar-count-at-beat-requires
-    enum-known-n
-    enum-told
-    enum-told-2
-    enum-told-3
-    returns
-    returns-2
-    returns-3
-    returns-4)
+    (tie.spec (λ c κs. search needs) (λ c κs. search needs) (λ c. search needs) (λ c. search needs) (λ c. search needs) (λ c. search needs) returns returns-2 returns-3 returns-4)

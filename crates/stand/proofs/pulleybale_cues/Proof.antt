@@ -34,39 +34,6 @@ uncued r e f =
     nothing-cued (a .clock .now) (a .lines .now) (a .frames) (a .cues .now) (a .count .now) (a .report .now) _ (r .cue .result) (answer r) f
     (cues-are (a .clock .now) (t .result) (t .ensures) (a .lines .now) (a .frames) (a .cues .now) _ e)
 
-clock-of-requires : tie.Need-clock-of-requires
-clock-of-requires c κs = search needs
-
-cue-requires : tie.Need-cue-requires
-cue-requires c κs = search needs
-
-enum-known-said : tie.Need-enum-known-said
-enum-known-said c = search needs
-
-place-requires : tie.Need-place-requires
-place-requires c κs = search needs
-
-flags-of-requires : tie.Need-flags-of-requires
-flags-of-requires c κs = search needs
-
-enum-told : tie.Need-enum-told
-enum-told c = search needs
-
-enum-told-2 : tie.Need-enum-told-2
-enum-told-2 c = search needs
-
-enum-told-3 : tie.Need-enum-told-3
-enum-told-3 c = search needs
-
-enum-told-4 : tie.Need-enum-told-4
-enum-told-4 c = search needs
-
-enum-told-5 : tie.Need-enum-told-5
-enum-told-5 c = search needs
-
-same-length : tie.Need-same-length
-same-length c = search needs
-
 returns : tie.Need-returns
 returns c =
     let told = c .before .before .before .before in
@@ -80,32 +47,17 @@ returns c =
     let cues = cues-are (a .clock .now) (t .result) (t .ensures) (a .lines .now) (a .frames) (a .cues .now) _ (r .cue .ensures .1) in
     (number-accepted said, (clock, (cues, (gave saidCount (a .count .now) said, c .flags-of .ensures ∙ gave saidFlags (a .report .now) said))))
 
-same-length-2 : tie.Need-same-length-2
-same-length-2 c = search needs
-
 returns-2 : tie.Need-returns-2
 returns-2 c = let r = c .before .before .before .before .before in uncued r (r .cue .ensures .1) (ap readReport (c .enum-told .given .1))
-
-same-length-3 : tie.Need-same-length-3
-same-length-3 c = search needs
 
 returns-3 : tie.Need-returns-3
 returns-3 c = let r = c .before .before .before .before .before in uncued r (r .cue .ensures .1) (ap readReport (c .enum-told2 .given .1))
 
-same-length-4 : tie.Need-same-length-4
-same-length-4 c = search needs
-
 returns-4 : tie.Need-returns-4
 returns-4 c = let r = c .before .before .before .before .before in uncued r (r .cue .ensures .1) (ap readReport (c .enum-told3 .given .1))
 
-same-length-5 : tie.Need-same-length-5
-same-length-5 c = search needs
-
 returns-5 : tie.Need-returns-5
 returns-5 c = let r = c .before .before .before .before .before in uncued r (r .cue .ensures .1) (ap readReport (c .enum-told4 .given .1))
-
-same-length-6 : tie.Need-same-length-6
-same-length-6 c = search needs
 
 returns-6 : tie.Need-returns-6
 returns-6 c = let r = c .before .before .before .before .before in uncued r (r .cue .ensures .1) (ap readReport (c .enum-told5 .given .1))
@@ -113,26 +65,6 @@ returns-6 c = let r = c .before .before .before .before .before in uncued r (r .
 pub pulleybale-cues-spec : {M : Type 1} → statement M
 pulleybale-cues-spec =
     tie.close
-    (tie.spec
-    clock-of-requires
-    cue-requires
-    enum-known-said
-    place-requires
-    flags-of-requires
-    enum-told
-    enum-told-2
-    enum-told-3
-    enum-told-4
-    enum-told-5
-    same-length
-    returns
-    same-length-2
-    returns-2
-    same-length-3
-    returns-3
-    same-length-4
-    returns-4
-    same-length-5
-    returns-5
-    same-length-6
-    returns-6)
+    (tie.spec (λ c κs. search needs) (λ c κs. search needs) (λ c. search needs) (λ c κs. search needs) (λ c κs. search needs) (λ c. search needs) (λ c. search needs)
+    (λ c. search needs) (λ c. search needs) (λ c. search needs) (λ c. search needs) returns (λ c. search needs) returns-2 (λ c. search needs) returns-3 (λ c. search needs)
+    returns-4 (λ c. search needs) returns-5 (λ c. search needs) returns-6)

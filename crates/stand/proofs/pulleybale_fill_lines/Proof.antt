@@ -20,24 +20,6 @@ answer c =
     let t = c .before .before .clock-of in
     filled-is (a .clock .now) (t .result) (t .ensures) (a .meter .now) (a .nums .now) (a .dens .now) (a .tempos .now) (a .lines .now) (c .fill-lines .result) (c .fill-lines .ensures .0)
 
-clock-of-requires : tie.Need-clock-of-requires
-clock-of-requires c κs = search needs
-
-fill-lines-requires : tie.Need-fill-lines-requires
-fill-lines-requires c κs = search needs
-
-enum-told : tie.Need-enum-told
-enum-told c = search needs
-
-enum-known-why : tie.Need-enum-known-why
-enum-known-why c = search needs
-
-number-of-requires : tie.Need-number-of-requires
-number-of-requires c κs = search needs
-
-same-length : tie.Need-same-length
-same-length c = search needs
-
 returns : tie.Need-returns
 returns c =
     let f = c .before .before .before .before in
@@ -45,9 +27,6 @@ returns c =
     let a = start f .args in
     let t = f .before .before .clock-of in
     (number-accepted e, lines-are (a .clock .now) (t .result) (t .ensures) (a .meter .now) (a .nums .now) (a .dens .now) (a .tempos .now) (a .lines .now) _ (f .fill-lines .ensures .1))
-
-same-length-2 : tie.Need-same-length-2
-same-length-2 c = search needs
 
 returns-2 : tie.Need-returns-2
 returns-2 c =
@@ -62,13 +41,4 @@ returns-2 c =
 pub pulleybale-fill-lines-spec : {M : Type 1} → statement M
 pulleybale-fill-lines-spec =
     tie.close
-    (tie.spec
-    clock-of-requires
-    fill-lines-requires
-    enum-told
-    enum-known-why
-    number-of-requires
-    same-length
-    returns
-    same-length-2
-    returns-2)
+    (tie.spec (λ c κs. search needs) (λ c κs. search needs) (λ c. search needs) (λ c. search needs) (λ c κs. search needs) (λ c. search needs) returns (λ c. search needs) returns-2)

@@ -20,24 +20,6 @@ answer c =
     framed-is (a .clock .now) (c .before .clock-of .result) (c .before .clock-of .ensures) (a .meter .now) (a .nums .now) (a .dens .now) (a .tempos .now)
     (a .bar) (c .frame-at-bar .result) (c .frame-at-bar .ensures)
 
-clock-of-requires : tie.Need-clock-of-requires
-clock-of-requires c κs = search needs
-
-frame-at-bar-requires : tie.Need-frame-at-bar-requires
-frame-at-bar-requires c κs = search needs
-
-enum-known-x : tie.Need-enum-known-x
-enum-known-x c = search needs
-
-enum-known-why : tie.Need-enum-known-why
-enum-known-why c = search needs
-
-number-of-requires : tie.Need-number-of-requires
-number-of-requires c κs = search needs
-
-enum-told : tie.Need-enum-told
-enum-told c = search needs
-
 returns : tie.Need-returns
 returns c = let e = answer (c .before .before .before) ∙ ap readFrame (c .before .x .given .1) in (number-accepted e, gave _ _ e)
 
@@ -50,13 +32,4 @@ returns-3 c = let e = answer (c .before .before) ∙ ap readFrame (c .enum-told 
 pub pulleybale-frame-spec : {M : Type 1} → statement M
 pulleybale-frame-spec =
     tie.close
-    (tie.spec
-    clock-of-requires
-    frame-at-bar-requires
-    enum-known-x
-    enum-known-why
-    number-of-requires
-    enum-told
-    returns
-    returns-2
-    returns-3)
+    (tie.spec (λ c κs. search needs) (λ c κs. search needs) (λ c. search needs) (λ c. search needs) (λ c κs. search needs) (λ c. search needs) returns returns-2 returns-3)

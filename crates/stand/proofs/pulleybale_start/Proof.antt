@@ -22,24 +22,6 @@ answer c =
     started-is (a .meter .now) (a .beats) (a .pickup-num) (a .pickup-den) (s .fits .pickup-num) (c .before .pickup-of .result) (c .before .pickup-of .ensures)
     (a .bar) (c .beat-at-bar .result) (c .beat-at-bar .ensures)
 
-pickup-of-requires : tie.Need-pickup-of-requires
-pickup-of-requires c κs = search needs
-
-beat-at-bar-requires : tie.Need-beat-at-bar-requires
-beat-at-bar-requires c κs = search needs
-
-enum-known-beat : tie.Need-enum-known-beat
-enum-known-beat c = search needs
-
-enum-told : tie.Need-enum-told
-enum-told c = search needs
-
-enum-told-2 : tie.Need-enum-told-2
-enum-told-2 c = search needs
-
-enum-told-3 : tie.Need-enum-told-3
-enum-told-3 c = search needs
-
 returns : tie.Need-returns
 returns c =
     let found = c .before .before in
@@ -60,14 +42,4 @@ returns-4 c = let e = answer (c .before .before) ∙ ap readBar (c .enum-told3 .
 pub pulleybale-start-spec : {M : Type 1} → statement M
 pulleybale-start-spec =
     tie.close
-    (tie.spec
-    pickup-of-requires
-    beat-at-bar-requires
-    enum-known-beat
-    enum-told
-    enum-told-2
-    enum-told-3
-    returns
-    returns-2
-    returns-3
-    returns-4)
+    (tie.spec (λ c κs. search needs) (λ c κs. search needs) (λ c. search needs) (λ c. search needs) (λ c. search needs) (λ c. search needs) returns returns-2 returns-3 returns-4)

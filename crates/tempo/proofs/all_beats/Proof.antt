@@ -22,32 +22,11 @@ abbrev μ-loop : tie.MeasureT-loop
 loop-holds : tie.Need-loop-holds Inv-loop μ-loop
 loop-holds c = refl
 
-mul-t5 : tie.Need-mul-t5 Inv-loop μ-loop
-mul-t5 c = search needs
-
-shared-slice-copy-out-t8 : tie.Need-shared-slice-copy-out-t8 Inv-loop μ-loop
-shared-slice-copy-out-t8 c = search needs
-
-mul-t9 : tie.Need-mul-t9 Inv-loop μ-loop
-mul-t9 c = search needs
-
-shared-slice-read-t11 : tie.Need-shared-slice-read-t11 Inv-loop μ-loop
-shared-slice-read-t11 c = search needs
-
-is-beat-requires : tie.Need-is-beat-requires Inv-loop μ-loop
-is-beat-requires c κs = search needs
-
 returns : tie.Need-returns Inv-loop μ-loop
 returns c =
     let s = c .before .before .before .before .before .before .before in
     let l = c .before .before .before .before .before .loop in
     not-beat (now (s .args .nums)) (now (s .args .dens)) (s .pre) (l .i) _ (l .inv) (c .before .before .before .before .loop-test .taken) _ (toZ-ofZ w64 (getD (now (s .args .nums)) (l .i) (pos 0)) (record { sfits = c .before .before .before .t8 .given })) _ (c .before .is-beat .ensures) (not-true _ (c .if1 .taken))
-
-add-i : tie.Need-add-i Inv-loop μ-loop
-add-i c = search needs
-
-loop-less : tie.Need-loop-less Inv-loop μ-loop
-loop-less c = search needs
 
 loop-again : tie.Need-loop-again Inv-loop μ-loop
 loop-again c =
@@ -64,17 +43,5 @@ returns-2 c =
 pub all-beats-spec : {M : Type 1} → statement M
 all-beats-spec =
     tie.close
-    (tie.spec
-    Inv-loop
-    μ-loop
-    loop-holds
-    mul-t5
-    shared-slice-copy-out-t8
-    mul-t9
-    shared-slice-read-t11
-    is-beat-requires
-    returns
-    add-i
-    loop-less
-    loop-again
-    returns-2)
+    (tie.spec Inv-loop μ-loop loop-holds (λ c. search needs) (λ c. search needs) (λ c. search needs) (λ c. search needs) (λ c κs. search needs) returns (λ c. search needs)
+    (λ c. search needs) loop-again returns-2)

@@ -18,9 +18,6 @@ returns-3 : tie.Need-returns-3
 unfolding mapTest
 returns-3 c = rw (eq-eqb _ _ (c .before .before .if1 .left), eq-eqb _ _ (c .before .if2 .left), lt-leb _ _ (c .if3 .taken))
 
-all-beats-requires : tie.Need-all-beats-requires
-all-beats-requires c κs = search needs
-
 returns-4 : tie.Need-returns-4
 unfolding mapTest
 returns-4 c = rw (eq-eqb _ _ (c .before .before .before .before .if1 .left), eq-eqb _ _ (c .before .before .before .if2 .left), le-leb _ _ (c .before .before .if3 .left), sym (c .before .all-beats .ensures) ∙ c .if4 .taken)
@@ -30,4 +27,5 @@ unfolding mapTest
 returns-5 c = rw (eq-eqb _ _ (c .before .before .before .before .if1 .left), eq-eqb _ _ (c .before .before .before .if2 .left), le-leb _ _ (c .before .before .if3 .left), sym (c .before .all-beats .ensures) ∙ c .if4 .left)
 
 pub test-spec : {M : Type 1} → statement M
-test-spec = tie.close (tie.spec returns returns-2 returns-3 all-beats-requires returns-4 returns-5)
+test-spec =
+    tie.close (tie.spec returns returns-2 returns-3 (λ c κs. search needs) returns-4 returns-5)

@@ -6,15 +6,6 @@ use Rattle.timeline.proofs.Testing.{by-test, maps-parallel}
 use Rattle.timeline.proofs.frame_at_bar.Statement.{statement}
 use Rattle.timeline.proofs.frame_at_bar.Tie as tie
 
-maps-test-requires : tie.Need-maps-test-requires
-maps-test-requires c κs = search needs
-
-enum-known-why : tie.Need-enum-known-why
-enum-known-why c = search needs
-
-enum-told : tie.Need-enum-told
-enum-told c = search needs
-
 frame-at-bar-requires : tie.Need-frame-at-bar-requires
 frame-at-bar-requires c κs = maps-parallel _ _ _ _ _ (c .before .before .maps-test .ensures) (c .enum-told .given .1)
 
@@ -26,5 +17,4 @@ returns-2 c = ap accepted (c .frame-at-bar .ensures) ∙ by-test _ _ _ (c .befor
 
 pub frame-at-bar-spec : {M : Type 1} → statement M
 frame-at-bar-spec =
-    tie.close
-    (tie.spec maps-test-requires enum-known-why enum-told frame-at-bar-requires returns returns-2)
+    tie.close (tie.spec (λ c κs. search needs) (λ c. search needs) (λ c. search needs) frame-at-bar-requires returns returns-2)

@@ -11,15 +11,6 @@ use Rattle.timeline.proofs.Testing.{by-test, beyond, within-reach, maps
 use Rattle.timeline.proofs.next_bar.Statement.{statement}
 use Rattle.timeline.proofs.next_bar.Tie as tie
 
-maps-test-requires : tie.Need-maps-test-requires
-maps-test-requires c κs = search needs
-
-enum-known-why : tie.Need-enum-known-why
-enum-known-why c = search needs
-
-enum-told : tie.Need-enum-told
-enum-told c = search needs
-
 next-grid-bar-requires : tie.Need-next-grid-bar-requires
 next-grid-bar-requires c κs = maps-parallel _ _ _ _ _ (c .before .before .maps-test .ensures) (c .enum-told .given .1)
 
@@ -27,9 +18,6 @@ returns : tie.Need-returns
 returns c =
     beyond (c .before .next-grid-bar .ensures) _ (c .if1 .taken)
     ∙ by-test _ _ _ (c .before .before .before .before .maps-test .ensures) (c .before .before .enum-told .given .1)
-
-cast-frame-at-bar : tie.Need-cast-frame-at-bar
-cast-frame-at-bar c = search needs
 
 frame-at-bar-requires : tie.Need-frame-at-bar-requires
 frame-at-bar-requires c κs = maps-parallel _ _ _ _ _ (c .before .before .before .before .maps-test .ensures) (c .before .before .enum-told .given .1)
@@ -49,14 +37,4 @@ returns-3 c =
 
 pub next-bar-spec : {M : Type 1} → statement M
 next-bar-spec =
-    tie.close
-    (tie.spec
-    maps-test-requires
-    enum-known-why
-    enum-told
-    next-grid-bar-requires
-    returns
-    cast-frame-at-bar
-    frame-at-bar-requires
-    returns-2
-    returns-3)
+    tie.close (tie.spec (λ c κs. search needs) (λ c. search needs) (λ c. search needs) next-grid-bar-requires returns (λ c. search needs) frame-at-bar-requires returns-2 returns-3)

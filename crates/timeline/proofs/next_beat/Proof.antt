@@ -6,15 +6,6 @@ use Rattle.timeline.proofs.Testing.{by-test, tempo-parallel}
 use Rattle.timeline.proofs.next_beat.Statement.{statement}
 use Rattle.timeline.proofs.next_beat.Tie as tie
 
-tempo-test-requires : tie.Need-tempo-test-requires
-tempo-test-requires c κs = search needs
-
-enum-known-why : tie.Need-enum-known-why
-enum-known-why c = search needs
-
-enum-told : tie.Need-enum-told
-enum-told c = search needs
-
 next-beat-requires : tie.Need-next-beat-requires
 next-beat-requires c κs = tempo-parallel _ _ _ _ (c .before .before .tempo-test .ensures) (c .enum-told .given .1)
 
@@ -26,5 +17,4 @@ returns-2 c = ap accepted (c .next-beat .ensures) ∙ by-test _ _ _ (c .before .
 
 pub next-beat-spec : {M : Type 1} → statement M
 next-beat-spec =
-    tie.close
-    (tie.spec tempo-test-requires enum-known-why enum-told next-beat-requires returns returns-2)
+    tie.close (tie.spec (λ c κs. search needs) (λ c. search needs) (λ c. search needs) next-beat-requires returns returns-2)

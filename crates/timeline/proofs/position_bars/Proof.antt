@@ -6,15 +6,6 @@ use Rattle.timeline.proofs.Testing.{by-test, maps-parallel}
 use Rattle.timeline.proofs.position_bars.Statement.{statement}
 use Rattle.timeline.proofs.position_bars.Tie as tie
 
-maps-test-requires : tie.Need-maps-test-requires
-maps-test-requires c κs = search needs
-
-enum-known-why : tie.Need-enum-known-why
-enum-known-why c = search needs
-
-enum-told : tie.Need-enum-told
-enum-told c = search needs
-
 position-bars-requires : tie.Need-position-bars-requires
 position-bars-requires c κs = maps-parallel _ _ _ _ _ (c .before .before .maps-test .ensures) (c .enum-told .given .1)
 
@@ -26,5 +17,4 @@ returns-2 c = ap accepted (c .position-bars .ensures) ∙ by-test _ _ _ (c .befo
 
 pub position-bars-spec : {M : Type 1} → statement M
 position-bars-spec =
-    tie.close
-    (tie.spec maps-test-requires enum-known-why enum-told position-bars-requires returns returns-2)
+    tie.close (tie.spec (λ c κs. search needs) (λ c. search needs) (λ c. search needs) position-bars-requires returns returns-2)

@@ -6,15 +6,6 @@ use Rattle.timeline.proofs.Testing.{by-test, tempo-parallel}
 use Rattle.timeline.proofs.position_beats.Statement.{statement}
 use Rattle.timeline.proofs.position_beats.Tie as tie
 
-tempo-test-requires : tie.Need-tempo-test-requires
-tempo-test-requires c κs = search needs
-
-enum-known-why : tie.Need-enum-known-why
-enum-known-why c = search needs
-
-enum-told : tie.Need-enum-told
-enum-told c = search needs
-
 position-beats-requires : tie.Need-position-beats-requires
 position-beats-requires c κs = tempo-parallel _ _ _ _ (c .before .before .tempo-test .ensures) (c .enum-told .given .1)
 
@@ -26,11 +17,4 @@ returns-2 c = ap accepted (c .position-beats .ensures) ∙ by-test _ _ _ (c .bef
 
 pub position-beats-spec : {M : Type 1} → statement M
 position-beats-spec =
-    tie.close
-    (tie.spec
-    tempo-test-requires
-    enum-known-why
-    enum-told
-    position-beats-requires
-    returns
-    returns-2)
+    tie.close (tie.spec (λ c κs. search needs) (λ c. search needs) (λ c. search needs) position-beats-requires returns returns-2)

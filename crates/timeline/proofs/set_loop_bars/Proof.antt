@@ -4,26 +4,11 @@ use Rattle.timeline.proofs.Testing.{passed-change, refused-change, maps
 use Rattle.timeline.proofs.set_loop_bars.Statement.{statement}
 use Rattle.timeline.proofs.set_loop_bars.Tie as tie
 
-maps-test-requires : tie.Need-maps-test-requires
-maps-test-requires c κs = search needs
-
-enum-known-why : tie.Need-enum-known-why
-enum-known-why c = search needs
-
-handed-back-requires : tie.Need-handed-back-requires
-handed-back-requires c κs = search needs
-
-enum-told : tie.Need-enum-told
-enum-told c = search needs
-
 frame-at-bar-requires : tie.Need-frame-at-bar-requires
 frame-at-bar-requires c κs = maps-parallel _ _ _ _ _ (c .before .before .maps-test .ensures) (c .enum-told .given .1)
 
 frame-at-bar-requires-2 : tie.Need-frame-at-bar-requires-2
 frame-at-bar-requires-2 c κs = maps-parallel _ _ _ _ _ (c .before .before .before .maps-test .ensures) (c .before .enum-told .given .1)
-
-looped-requires : tie.Need-looped-requires
-looped-requires c κs = search needs
 
 returns : tie.Need-returns
 returns c = rw (c .handed-back .ensures) (refused-change _ _ _ (c .before .before .before .before .maps-test .ensures) (c .before .before .why .given .1))
@@ -36,13 +21,5 @@ returns-2 c =
 pub set-loop-bars-spec : {M : Type 1} → statement M
 set-loop-bars-spec =
     tie.close
-    (tie.spec
-    maps-test-requires
-    enum-known-why
-    handed-back-requires
-    enum-told
-    frame-at-bar-requires
-    frame-at-bar-requires-2
-    looped-requires
-    returns
+    (tie.spec (λ c κs. search needs) (λ c. search needs) (λ c κs. search needs) (λ c. search needs) frame-at-bar-requires frame-at-bar-requires-2 (λ c κs. search needs) returns
     returns-2)

@@ -3,11 +3,9 @@ use borrow.Author.Needs.{needs}
 use Rattle.transport.proofs.constant.Statement.{statement}
 use Rattle.transport.proofs.constant.Tie as tie
 
-fresh-requires : tie.Need-fresh-requires
-fresh-requires c κs = search needs
-
 returns : tie.Need-returns
 returns c = c .fresh .ensures
 
 pub constant-spec : {M : Type 1} → statement M
-constant-spec = tie.close (tie.spec fresh-requires returns)
+constant-spec =
+    tie.close (tie.spec (λ c κs. search needs) returns)

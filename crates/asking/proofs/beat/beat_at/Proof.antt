@@ -10,15 +10,6 @@ use Rattle.numbers.specs.Bits.{signedOf}
 use Rattle.asking.proofs.beat.beat_at.Statement.{statement}
 use Rattle.asking.proofs.beat.beat_at.Tie as tie
 
-i64-at-requires : tie.Need-i64-at-requires
-i64-at-requires c κs = search needs
-
-add-u32-at : tie.Need-add-u32-at
-add-u32-at c = search needs
-
-u32-at-requires : tie.Need-u32-at-requires
-u32-at-requires c κs = search needs
-
 returns : tie.Need-returns
 returns c =
     let n = c .before .i64-at in
@@ -37,4 +28,4 @@ returns-2 c =
 
 pub beat-at-spec : {M : Type 1} → statement M
 beat-at-spec =
-    tie.close (tie.spec i64-at-requires add-u32-at u32-at-requires returns returns-2)
+    tie.close (tie.spec (λ c κs. search needs) (λ c. search needs) (λ c κs. search needs) returns returns-2)

@@ -5,14 +5,9 @@ use borrow.Author.Needs.{needs}
 use Rattle.asking.proofs.fields.f32_at.Statement.{statement}
 use Rattle.asking.proofs.fields.f32_at.Tie as tie
 
-u32-at-requires : tie.Need-u32-at-requires
-u32-at-requires c κs = search needs
-
-f32-of-requires : tie.Need-f32-of-requires
-f32-of-requires c κs = search needs
-
 returns : tie.Need-returns
 returns c = c .f32-of .ensures ∙ ap (ofBits binary32) (c .before .u32-at .ensures)
 
 pub f32-at-spec : {M : Type 1} → statement M
-f32-at-spec = tie.close (tie.spec u32-at-requires f32-of-requires returns)
+f32-at-spec =
+    tie.close (tie.spec (λ c κs. search needs) (λ c κs. search needs) returns)

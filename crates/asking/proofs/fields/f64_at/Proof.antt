@@ -5,14 +5,9 @@ use borrow.Author.Needs.{needs}
 use Rattle.asking.proofs.fields.f64_at.Statement.{statement}
 use Rattle.asking.proofs.fields.f64_at.Tie as tie
 
-u64-at-requires : tie.Need-u64-at-requires
-u64-at-requires c κs = search needs
-
-f64-of-requires : tie.Need-f64-of-requires
-f64-of-requires c κs = search needs
-
 returns : tie.Need-returns
 returns c = c .f64-of .ensures ∙ ap (ofBits binary64) (c .before .u64-at .ensures)
 
 pub f64-at-spec : {M : Type 1} → statement M
-f64-at-spec = tie.close (tie.spec u64-at-requires f64-of-requires returns)
+f64-at-spec =
+    tie.close (tie.spec (λ c κs. search needs) (λ c κs. search needs) returns)

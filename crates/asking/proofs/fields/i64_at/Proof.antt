@@ -7,12 +7,6 @@ use Rattle.numbers.specs.Bits.{signedOf}
 use Rattle.asking.proofs.fields.i64_at.Statement.{statement}
 use Rattle.asking.proofs.fields.i64_at.Tie as tie
 
-u64-at-requires : tie.Need-u64-at-requires
-u64-at-requires c κs = search needs
-
-as-signed-requires : tie.Need-as-signed-requires
-as-signed-requires c κs = search needs
-
 returns : tie.Need-returns
 returns c =
     toZ-ofZ w64 (c .as-signed .result) (record { sfits = c .as-signed .ok })
@@ -20,4 +14,5 @@ returns c =
     ∙ ap signedOf (c .before .u64-at .ensures)
 
 pub i64-at-spec : {M : Type 1} → statement M
-i64-at-spec = tie.close (tie.spec u64-at-requires as-signed-requires returns)
+i64-at-spec =
+    tie.close (tie.spec (λ c κs. search needs) (λ c κs. search needs) returns)

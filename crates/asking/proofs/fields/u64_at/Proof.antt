@@ -6,21 +6,6 @@ use borrow.Author.Needs.{needs}
 use Rattle.asking.proofs.fields.u64_at.Statement.{statement}
 use Rattle.asking.proofs.fields.u64_at.Tie as tie
 
-u32-at-requires : tie.Need-u32-at-requires
-u32-at-requires c κs = search needs
-
-add-u32-at : tie.Need-add-u32-at
-add-u32-at c = search needs
-
-u32-at-requires-2 : tie.Need-u32-at-requires-2
-u32-at-requires-2 c κs = search needs
-
-of-halves-requires : tie.Need-of-halves-requires
-of-halves-requires c κs = search needs
-
-returns : tie.Need-returns
-returns c = search needs
-
 returns-2 : tie.Need-returns-2
 returns-2 c =
     let q = c .before .before .args .q .now in
@@ -29,5 +14,4 @@ returns-2 c =
 
 pub u64-at-spec : {M : Type 1} → statement M
 u64-at-spec =
-    tie.close
-    (tie.spec u32-at-requires add-u32-at u32-at-requires-2 of-halves-requires returns returns-2)
+    tie.close (tie.spec (λ c κs. search needs) (λ c. search needs) (λ c κs. search needs) (λ c κs. search needs) (λ c. search needs) returns-2)

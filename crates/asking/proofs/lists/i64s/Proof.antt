@@ -20,24 +20,6 @@ abbrev μ-loop : tie.MeasureT-loop
 loop-holds : tie.Need-loop-holds Inv-loop μ-loop
 loop-holds c = none (pos 0) _ _ _ refl
 
-mul-i64-at : tie.Need-mul-i64-at Inv-loop μ-loop
-mul-i64-at c = search needs
-
-i64-at-requires : tie.Need-i64-at-requires Inv-loop μ-loop
-i64-at-requires c κs = search needs
-
-mul-t7 : tie.Need-mul-t7 Inv-loop μ-loop
-mul-t7 c = search needs
-
-slice-set-from-space : tie.Need-slice-set-from-space Inv-loop μ-loop
-slice-set-from-space c = search needs
-
-add-k : tie.Need-add-k Inv-loop μ-loop
-add-k c = search needs
-
-loop-less : tie.Need-loop-less Inv-loop μ-loop
-loop-less c = search needs
-
 loop-again : tie.Need-loop-again Inv-loop μ-loop
 loop-again c =
     let l = c .before .before .loop in
@@ -53,16 +35,5 @@ returns c = let l = c .before .loop in all (pos 0) _ _ (l .space) (l .k) (l .inv
 pub i64s-spec : {M : Type 1} → statement M
 i64s-spec =
     tie.close
-    (tie.spec
-    Inv-loop
-    μ-loop
-    loop-holds
-    mul-i64-at
-    i64-at-requires
-    mul-t7
-    slice-set-from-space
-    add-k
-    loop-less
-    loop-again
-    same-length
-    returns)
+    (tie.spec Inv-loop μ-loop loop-holds (λ c. search needs) (λ c κs. search needs) (λ c. search needs) (λ c. search needs) (λ c. search needs) (λ c. search needs) loop-again
+    same-length returns)

@@ -17,21 +17,6 @@ abbrev μ-loop : tie.MeasureT-loop
 loop-holds : tie.Need-loop-holds Inv-loop μ-loop
 loop-holds c = none 0 mark64 _ _ refl
 
-add-lent : tie.Need-add-lent Inv-loop μ-loop
-add-lent c = search needs
-
-mul-lent : tie.Need-mul-lent Inv-loop μ-loop
-mul-lent c = search needs
-
-slice-write-lent : tie.Need-slice-write-lent Inv-loop μ-loop
-slice-write-lent c = search needs
-
-add-k : tie.Need-add-k Inv-loop μ-loop
-add-k c = search needs
-
-loop-less : tie.Need-loop-less Inv-loop μ-loop
-loop-less c = search needs
-
 loop-again : tie.Need-loop-again Inv-loop μ-loop
 loop-again c =
     let l = c .before .loop in
@@ -46,15 +31,4 @@ returns c = let l = c .before .loop in all 0 mark64 _ (l .lent) (l .k) (l .inv) 
 pub mark-u64s-spec : {M : Type 1} → statement M
 mark-u64s-spec =
     tie.close
-    (tie.spec
-    Inv-loop
-    μ-loop
-    loop-holds
-    add-lent
-    mul-lent
-    slice-write-lent
-    add-k
-    loop-less
-    loop-again
-    same-length
-    returns)
+    (tie.spec Inv-loop μ-loop loop-holds (λ c. search needs) (λ c. search needs) (λ c. search needs) (λ c. search needs) (λ c. search needs) loop-again same-length returns)

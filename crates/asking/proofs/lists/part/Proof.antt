@@ -6,39 +6,15 @@ use borrow.Author.Needs.{needs}
 use Rattle.asking.proofs.lists.part.Statement.{statement}
 use Rattle.asking.proofs.lists.part.Tie as tie
 
-slice-aggregate-result : tie.Need-slice-aggregate-result
-slice-aggregate-result c = search needs
-
 returns : tie.Need-returns
 returns c = let s = c .before .before .args in none-before (s .q .now) (s .a) (s .e) (c .before .if1 .taken)
 
-slice-aggregate-result-2 : tie.Need-slice-aggregate-result-2
-slice-aggregate-result-2 c = search needs
-
 returns-2 : tie.Need-returns-2
 returns-2 c = let s = c .before .before .before .args in rw (lt-ltb (length (s .q .now)) (s .e) (c .before .if2 .taken))
-
-mul-result : tie.Need-mul-result
-mul-result c = search needs
-
-part-result-start : tie.Need-part-result-start
-part-result-start c = search needs
-
-part-result-end : tie.Need-part-result-end
-part-result-end c = search needs
 
 returns-3 : tie.Need-returns-3
 returns-3 c = let s = c .before .before .before .args in rw (le-ltb (length (s .q .now)) (s .e) (c .before .if2 .left))
 
 pub part-spec : {M : Type 1} → statement M
 part-spec =
-    tie.close
-    (tie.spec
-    slice-aggregate-result
-    returns
-    slice-aggregate-result-2
-    returns-2
-    mul-result
-    part-result-start
-    part-result-end
-    returns-3)
+    tie.close (tie.spec (λ c. search needs) returns (λ c. search needs) returns-2 (λ c. search needs) (λ c. search needs) (λ c. search needs) returns-3)

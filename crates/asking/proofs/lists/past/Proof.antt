@@ -10,17 +10,12 @@ use Rattle.asking.proofs.lists.past.Tie as tie
 returns : tie.Need-returns
 returns c = let s = c .before .args in rw (lt-ltb (length (s .q .now)) (s .at + s .n) (omega arith))
 
-sub-if2 : tie.Need-sub-if2
-sub-if2 c = search needs
-
 returns-2 : tie.Need-returns-2
 returns-2 c = let s = c .before .before .args in rw (lt-ltb (length (s .q .now)) (s .at + s .n) (omega arith))
-
-add-result : tie.Need-add-result
-add-result c = search needs
 
 returns-3 : tie.Need-returns-3
 returns-3 c = let s = c .before .before .args in rw (le-ltb (length (s .q .now)) (s .at + s .n) (omega arith))
 
 pub past-spec : {M : Type 1} → statement M
-past-spec = tie.close (tie.spec returns sub-if2 returns-2 add-result returns-3)
+past-spec =
+    tie.close (tie.spec returns (λ c. search needs) returns-2 (λ c. search needs) returns-3)

@@ -6,23 +6,14 @@ use borrow.Author.Tests.{le-leb, lt-leb, not-true, not-false}
 use Rattle.asking_clock.proofs.transports.is_transport.Statement.{statement}
 use Rattle.asking_clock.proofs.transports.is_transport.Tie as tie
 
-u32-at-requires : tie.Need-u32-at-requires
-u32-at-requires c κs = search needs
-
 returns : tie.Need-returns
 returns c = simp (lt-leb _ _ (subst (λ (n : ℕ). 2 < n) (c .before .u32-at .ensures) (c .if1 .taken)))
-
-is-flag-requires : tie.Need-is-flag-requires
-is-flag-requires c κs = search needs
 
 returns-2 : tie.Need-returns-2
 returns-2 c =
     let state = c .before .before in
     let few = subst (λ (n : ℕ). n ≤ 2) (state .before .u32-at .ensures) (state .if1 .left) in
     simp (le-leb _ _ few, sym (c .before .is-flag .ensures) ∙ not-true _ (c .if2 .taken))
-
-is-flag-requires-2 : tie.Need-is-flag-requires-2
-is-flag-requires-2 c κs = search needs
 
 returns-3 : tie.Need-returns-3
 returns-3 c =
@@ -33,4 +24,4 @@ returns-3 c =
 
 pub is-transport-spec : {M : Type 1} → statement M
 is-transport-spec =
-    tie.close (tie.spec u32-at-requires returns is-flag-requires returns-2 is-flag-requires-2 returns-3)
+    tie.close (tie.spec (λ c κs. search needs) returns (λ c κs. search needs) returns-2 (λ c κs. search needs) returns-3)

@@ -5,15 +5,6 @@ use borrow.Author.Tests.{eq-eqb, ne-eqb}
 use Rattle.asking_clock.proofs.transports.loop_of.Statement.{statement}
 use Rattle.asking_clock.proofs.transports.loop_of.Tie as tie
 
-u32-at-requires : tie.Need-u32-at-requires
-u32-at-requires c κs = search needs
-
-u64-at-requires : tie.Need-u64-at-requires
-u64-at-requires c κs = search needs
-
-u64-at-requires-2 : tie.Need-u64-at-requires-2
-u64-at-requires-2 c κs = search needs
-
 returns : tie.Need-returns
 returns c = rw (sym (c .before .u32-at .ensures), eq-eqb _ _ (c .if1 .taken))
 
@@ -24,4 +15,4 @@ returns-2 c =
 
 pub loop-of-spec : {M : Type 1} → statement M
 loop-of-spec =
-    tie.close (tie.spec u32-at-requires u64-at-requires u64-at-requires-2 returns returns-2)
+    tie.close (tie.spec (λ c κs. search needs) (λ c κs. search needs) (λ c κs. search needs) returns returns-2)

@@ -5,15 +5,6 @@ use borrow.Author.Tests.{eq-eqb, ne-eqb}
 use Rattle.asking_clock.proofs.transports.pickup_at.Statement.{statement}
 use Rattle.asking_clock.proofs.transports.pickup_at.Tie as tie
 
-u32-at-requires : tie.Need-u32-at-requires
-u32-at-requires c κs = search needs
-
-past-requires : tie.Need-past-requires
-past-requires c κs = search needs
-
-beat-at-requires : tie.Need-beat-at-requires
-beat-at-requires c κs = search needs
-
 returns : tie.Need-returns
 returns c = rw (sym (c .before .u32-at .ensures), eq-eqb _ _ (c .if1 .taken))
 
@@ -24,4 +15,4 @@ returns-2 c =
 
 pub pickup-at-spec : {M : Type 1} → statement M
 pickup-at-spec =
-    tie.close (tie.spec u32-at-requires past-requires beat-at-requires returns returns-2)
+    tie.close (tie.spec (λ c κs. search needs) (λ c κs. search needs) (λ c κs. search needs) returns returns-2)

@@ -5,33 +5,6 @@ use Rattle.asking_clock.specs.Words.{stateOf}
 use Rattle.asking_clock.proofs.transports.transport_of.Statement.{statement}
 use Rattle.asking_clock.proofs.transports.transport_of.Tie as tie
 
-u32-at-requires : tie.Need-u32-at-requires
-u32-at-requires c κs = search needs
-
-state-of-requires : tie.Need-state-of-requires
-state-of-requires c κs = search needs
-
-loop-of-requires : tie.Need-loop-of-requires
-loop-of-requires c κs = search needs
-
-pickup-at-requires : tie.Need-pickup-at-requires
-pickup-at-requires c κs = search needs
-
-u32-at-requires-2 : tie.Need-u32-at-requires-2
-u32-at-requires-2 c κs = search needs
-
-f32-at-requires : tie.Need-f32-at-requires
-f32-at-requires c κs = search needs
-
-u32-at-requires-3 : tie.Need-u32-at-requires-3
-u32-at-requires-3 c κs = search needs
-
-u64-at-requires : tie.Need-u64-at-requires
-u64-at-requires c κs = search needs
-
-u64-at-requires-2 : tie.Need-u64-at-requires-2
-u64-at-requires-2 c κs = search needs
-
 returns : tie.Need-returns
 returns c =
     let length = c .before in
@@ -55,14 +28,5 @@ returns c =
 pub transport-of-spec : {M : Type 1} → statement M
 transport-of-spec =
     tie.close
-    (tie.spec
-    u32-at-requires
-    state-of-requires
-    loop-of-requires
-    pickup-at-requires
-    u32-at-requires-2
-    f32-at-requires
-    u32-at-requires-3
-    u64-at-requires
-    u64-at-requires-2
-    returns)
+    (tie.spec (λ c κs. search needs) (λ c κs. search needs) (λ c κs. search needs) (λ c κs. search needs) (λ c κs. search needs) (λ c κs. search needs) (λ c κs. search needs)
+    (λ c κs. search needs) (λ c κs. search needs) returns)

@@ -6,17 +6,12 @@ use borrow.Author.Needs.{needs}
 use Rattle.beats.proofs.Beat.checked_add.Statement.{statement}
 use Rattle.beats.proofs.Beat.checked_add.Tie as tie
 
-both-beats-requires : tie.Need-both-beats-requires
-both-beats-requires c κs = search needs
-
 returns : tie.Need-returns
 returns c = not-fine _ _ (sym (c .before .both-beats .ensures) ∙ not-true _ (c .if1 .taken))
-
-add-requires : tie.Need-add-requires
-add-requires c κs = search needs
 
 returns-2 : tie.Need-returns-2
 returns-2 c = c .add .ensures ∙ is-fine _ _ (sym (c .before .before .both-beats .ensures) ∙ not-false _ (c .before .if1 .left))
 
 pub checked-add-spec : {M : Type 1} → statement M
-checked-add-spec = tie.close (tie.spec both-beats-requires returns add-requires returns-2)
+checked-add-spec =
+    tie.close (tie.spec (λ c κs. search needs) returns (λ c κs. search needs) returns-2)

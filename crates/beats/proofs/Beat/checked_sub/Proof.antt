@@ -6,17 +6,12 @@ use borrow.Author.Needs.{needs}
 use Rattle.beats.proofs.Beat.checked_sub.Statement.{statement}
 use Rattle.beats.proofs.Beat.checked_sub.Tie as tie
 
-both-beats-requires : tie.Need-both-beats-requires
-both-beats-requires c κs = search needs
-
 returns : tie.Need-returns
 returns c = not-fine _ _ (sym (c .before .both-beats .ensures) ∙ not-true _ (c .if1 .taken))
-
-sub-requires : tie.Need-sub-requires
-sub-requires c κs = search needs
 
 returns-2 : tie.Need-returns-2
 returns-2 c = c .sub .ensures ∙ is-fine _ _ (sym (c .before .before .both-beats .ensures) ∙ not-false _ (c .before .if1 .left))
 
 pub checked-sub-spec : {M : Type 1} → statement M
-checked-sub-spec = tie.close (tie.spec both-beats-requires returns sub-requires returns-2)
+checked-sub-spec =
+    tie.close (tie.spec (λ c κs. search needs) returns (λ c κs. search needs) returns-2)

@@ -7,17 +7,12 @@ use borrow.Author.Needs.{needs}
 use Rattle.beats.proofs.Beat.cmp.Statement.{statement}
 use Rattle.beats.proofs.Beat.cmp.Tie as tie
 
-both-beats-requires : tie.Need-both-beats-requires
-both-beats-requires c κs = search needs
-
 returns : tie.Need-returns
 returns c = not-fine _ _ (sym (c .before .both-beats .ensures) ∙ not-true _ (c .if1 .taken))
-
-order-requires : tie.Need-order-requires
-order-requires c κs = search needs
 
 returns-2 : tie.Need-returns-2
 returns-2 c = ap accepted (c .order .ensures) ∙ is-fine _ _ (sym (c .before .before .both-beats .ensures) ∙ not-false _ (c .before .if1 .left))
 
 pub cmp-spec : {M : Type 1} → statement M
-cmp-spec = tie.close (tie.spec both-beats-requires returns order-requires returns-2)
+cmp-spec =
+    tie.close (tie.spec (λ c κs. search needs) returns (λ c κs. search needs) returns-2)

@@ -13,15 +13,6 @@ use borrow.Author.Needs.{needs}
 use Rattle.beats.proofs.Beat.is_beat.Statement.{statement}
 use Rattle.beats.proofs.Beat.is_beat.Tie as tie
 
-magnitude-requires : tie.Need-magnitude-requires
-magnitude-requires c κs = search needs
-
-cast-gcd : tie.Need-cast-gcd
-cast-gcd c = search needs
-
-gcd-requires : tie.Need-gcd-requires
-gcd-requires c κs = search needs
-
 returns : tie.Need-returns
 returns c = rw (le-ltb 0 (c .before .before .args .self .den) (omega arith))
 
@@ -35,4 +26,5 @@ returns-2 c =
     ap (λ (n : ℕ). eqb n 1) g ∙ ap (λ (t : Bool). t && eqb (gcdOf (natAbs (b .num)) (b .den)) 1) (sym p)
 
 pub is-beat-spec : {M : Type 1} → statement M
-is-beat-spec = tie.close (tie.spec magnitude-requires cast-gcd gcd-requires returns returns-2)
+is-beat-spec =
+    tie.close (tie.spec (λ c κs. search needs) (λ c. search needs) (λ c κs. search needs) returns returns-2)

@@ -10,14 +10,8 @@ use borrow.Author.Needs.{needs}
 use Rattle.beats.proofs.Beat.mul_rational.Statement.{statement}
 use Rattle.beats.proofs.Beat.mul_rational.Tie as tie
 
-is-beat-requires : tie.Need-is-beat-requires
-is-beat-requires c κs = search needs
-
 returns : tie.Need-returns
 returns c = not-fine _ _ (sym (c .before .is-beat .ensures) ∙ not-true _ (c .if1 .taken))
-
-mul-requires : tie.Need-mul-requires
-mul-requires c κs = search needs
 
 returns-2 : tie.Need-returns-2
 returns-2 c =
@@ -27,4 +21,5 @@ returns-2 c =
     ∙ is-fine _ _ (sym (c .before .before .is-beat .ensures) ∙ not-false _ (c .before .if1 .left))
 
 pub mul-rational-spec : {M : Type 1} → statement M
-mul-rational-spec = tie.close (tie.spec is-beat-requires returns mul-requires returns-2)
+mul-rational-spec =
+    tie.close (tie.spec (λ c κs. search needs) returns (λ c κs. search needs) returns-2)

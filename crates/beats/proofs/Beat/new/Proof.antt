@@ -56,18 +56,6 @@ known c =
       g-is = c .gcd .ensures ∙ ap (λ (a : ℕ). gcdOf a (c .before .before .positive .result)) (c .before .magnitude .ensures ∙ ap natAbs (toZ-ofZ w64 (s .args .num) (s .fits .num)));
     }
 
-positive-requires : tie.Need-positive-requires
-positive-requires c κs = search needs
-
-magnitude-requires : tie.Need-magnitude-requires
-magnitude-requires c κs = search needs
-
-cast-gcd : tie.Need-cast-gcd
-cast-gcd c = search needs
-
-gcd-requires : tie.Need-gcd-requires
-gcd-requires c κs = search needs
-
 returns : tie.Need-returns
 returns c = unchanged (known (c .before)) (c .if1 .taken)
 
@@ -78,9 +66,6 @@ div-t9 : tie.Need-div-t9
 div-t9 c =
     let k = known (c .before) in
     (g-pos k, rw (quot-read k) (quot-fits k))
-
-cast-t5 : tie.Need-cast-t5
-cast-t5 c = search needs
 
 div-t6 : tie.Need-div-t6
 div-t6 c = g-pos (known (c .before))
@@ -96,15 +81,4 @@ returns-2 c = made (known (c .before))
 pub new-spec : {M : Type 1} → statement M
 new-spec =
     tie.close
-    (tie.spec
-    positive-requires
-    magnitude-requires
-    cast-gcd
-    gcd-requires
-    returns
-    cast-t8
-    div-t9
-    cast-t5
-    div-t6
-    cast-t10
-    returns-2)
+    (tie.spec (λ c κs. search needs) (λ c κs. search needs) (λ c. search needs) (λ c κs. search needs) returns cast-t8 div-t9 (λ c. search needs) div-t6 cast-t10 returns-2)

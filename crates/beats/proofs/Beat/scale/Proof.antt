@@ -8,11 +8,9 @@ use borrow.Author.Needs.{needs}
 use Rattle.beats.proofs.Beat.scale.Statement.{statement}
 use Rattle.beats.proofs.Beat.scale.Tie as tie
 
-mul-rational-requires : tie.Need-mul-rational-requires
-mul-rational-requires c κs = search needs
-
 returns : tie.Need-returns
 returns c = let s = c .before in c .mul-rational .ensures ∙ ap (λ (z : ℤ). mulAnswer (s .args .self) z 1) (toZ-ofZ w64 (s .args .factor) (s .fits .factor))
 
 pub scale-spec : {M : Type 1} → statement M
-scale-spec = tie.close (tie.spec mul-rational-requires returns)
+scale-spec =
+    tie.close (tie.spec (λ c κs. search needs) returns)

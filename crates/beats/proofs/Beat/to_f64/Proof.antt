@@ -7,17 +7,12 @@ use borrow.Author.Needs.{needs}
 use Rattle.beats.proofs.Beat.to_f64.Statement.{statement}
 use Rattle.beats.proofs.Beat.to_f64.Tie as tie
 
-is-beat-requires : tie.Need-is-beat-requires
-is-beat-requires c κs = search needs
-
 returns : tie.Need-returns
 returns c = not-fine _ _ (sym (c .before .is-beat .ensures) ∙ not-true _ (c .if1 .taken))
-
-float-of-requires : tie.Need-float-of-requires
-float-of-requires c κs = search needs
 
 returns-2 : tie.Need-returns-2
 returns-2 c = ap accepted (c .float-of .ensures) ∙ is-fine _ _ (sym (c .before .before .is-beat .ensures) ∙ not-false _ (c .before .if1 .left))
 
 pub to-f64-spec : {M : Type 1} → statement M
-to-f64-spec = tie.close (tie.spec is-beat-requires returns float-of-requires returns-2)
+to-f64-spec =
+    tie.close (tie.spec (λ c κs. search needs) returns (λ c κs. search needs) returns-2)

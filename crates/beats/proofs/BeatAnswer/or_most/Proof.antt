@@ -7,18 +7,6 @@ use borrow.Author.Needs.{needs}
 use Rattle.beats.proofs.BeatAnswer.or_most.Statement.{statement}
 use Rattle.beats.proofs.BeatAnswer.or_most.Tie as tie
 
-enum-known-self : tie.Need-enum-known-self
-enum-known-self c = search needs
-
-enum-told : tie.Need-enum-told
-enum-told c = search needs
-
-enum-told-2 : tie.Need-enum-told-2
-enum-told-2 c = search needs
-
-returns : tie.Need-returns
-returns c = search needs
-
 returns-2 : tie.Need-returns-2
 returns-2 c = ap (λ (a : BeatAnswer). orMost (readBeat a)) (sym (c .enum-told .given .1))
 
@@ -27,4 +15,4 @@ returns-3 c = ap (λ (a : BeatAnswer). orMost (readBeat a)) (sym (c .enum-told2 
 
 pub or-most-spec : {M : Type 1} → statement M
 or-most-spec =
-    tie.close (tie.spec enum-known-self enum-told enum-told-2 returns returns-2 returns-3)
+    tie.close (tie.spec (λ c. search needs) (λ c. search needs) (λ c. search needs) (λ c. search needs) returns-2 returns-3)

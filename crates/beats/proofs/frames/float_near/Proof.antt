@@ -19,14 +19,8 @@ unfolding inFloat
 exact (pos a) p q = le→leb a (2 ^ 53) (omega (arith, ltb-false 9007199254740991 a p))
 exact (negsuc a) p q = lt→ltb a (2 ^ 53) (omega (arith, ltb-false 9007199254740990 a q))
 
-nearest-i64-to-f64-requires : tie.Need-nearest-i64-to-f64-requires
-nearest-i64-to-f64-requires c κs = search needs
-
 returns : tie.Need-returns
 returns c = let s = c .before .before in c .nearest-i64-to-f64 .ensures ∙ ap (ofInt binary64) (toZ-ofZ w64 (s .args .n) (s .fits .n))
-
-nearest-i64-to-f64-requires-2 : tie.Need-nearest-i64-to-f64-requires-2
-nearest-i64-to-f64-requires-2 c κs = search needs
 
 returns-2 : tie.Need-returns-2
 returns-2 c = let s = c .before .before .before in c .nearest-i64-to-f642 .ensures ∙ ap (ofInt binary64) (toZ-ofZ w64 (s .args .n) (s .fits .n))
@@ -34,16 +28,6 @@ returns-2 c = let s = c .before .before .before in c .nearest-i64-to-f642 .ensur
 int-to-float-result : tie.Need-int-to-float-result
 int-to-float-result c = exact _ (c .before .before .if1 .left) (c .before .if2 .left)
 
-returns-3 : tie.Need-returns-3
-returns-3 c = search needs
-
 pub float-near-spec : {M : Type 1} → statement M
 float-near-spec =
-    tie.close
-    (tie.spec
-    nearest-i64-to-f64-requires
-    returns
-    nearest-i64-to-f64-requires-2
-    returns-2
-    int-to-float-result
-    returns-3)
+    tie.close (tie.spec (λ c κs. search needs) returns (λ c κs. search needs) returns-2 int-to-float-result (λ c. search needs))

@@ -8,12 +8,6 @@ use borrow.Author.Needs.{needs}
 use Rattle.beats.proofs.frames.float_of.Statement.{statement}
 use Rattle.beats.proofs.frames.float_of.Tie as tie
 
-float-near-requires : tie.Need-float-near-requires
-float-near-requires c κs = search needs
-
-int-to-float-result : tie.Need-int-to-float-result
-int-to-float-result c = search needs
-
 returns : tie.Need-returns
 returns c =
     let t = c .before .before in
@@ -22,4 +16,5 @@ returns c =
     ap (λ (x : Float). div binary64 x (ofInt binary64 (pos (b .den)))) (c .before .float-near .ensures ∙ ap (λ (n : ℤ). ofInt binary64 n) back)
 
 pub float-of-spec : {M : Type 1} → statement M
-float-of-spec = tie.close (tie.spec float-near-requires int-to-float-result returns)
+float-of-spec =
+    tie.close (tie.spec (λ c κs. search needs) (λ c. search needs) returns)

@@ -7,21 +7,6 @@ use borrow.Author.Needs.{needs}
 use Rattle.beats.proofs.frames.frame_of.Statement.{statement}
 use Rattle.beats.proofs.frames.frame_of.Tie as tie
 
-widened-requires : tie.Need-widened-requires
-widened-requires c κs = search needs
-
-max-f64-requires : tie.Need-max-f64-requires
-max-f64-requires c κs = search needs
-
-float-of-requires : tie.Need-float-of-requires
-float-of-requires c κs = search needs
-
-seconds-at-requires : tie.Need-seconds-at-requires
-seconds-at-requires c κs = search needs
-
-frames-at-requires : tie.Need-frames-at-requires
-frames-at-requires c κs = search needs
-
 returns : tie.Need-returns
 unfolding frameOf ofBits
 returns c =
@@ -33,11 +18,4 @@ returns c =
 
 pub frame-of-spec : {M : Type 1} → statement M
 frame-of-spec =
-    tie.close
-    (tie.spec
-    widened-requires
-    max-f64-requires
-    float-of-requires
-    seconds-at-requires
-    frames-at-requires
-    returns)
+    tie.close (tie.spec (λ c κs. search needs) (λ c κs. search needs) (λ c κs. search needs) (λ c κs. search needs) (λ c κs. search needs) returns)

@@ -9,21 +9,6 @@ use borrow.Author.Needs.{needs}
 use Rattle.beats.proofs.sums.add.Statement.{statement}
 use Rattle.beats.proofs.sums.add.Tie as tie
 
-cast-sum-of-products : tie.Need-cast-sum-of-products
-cast-sum-of-products c = search needs
-
-cast-sum-of-products-2 : tie.Need-cast-sum-of-products-2
-cast-sum-of-products-2 c = search needs
-
-sum-of-products-requires : tie.Need-sum-of-products-requires
-sum-of-products-requires c κs = search needs
-
-common-requires : tie.Need-common-requires
-common-requires c κs = search needs
-
-checked-requires : tie.Need-checked-requires
-checked-requires c κs = search needs
-
 returns : tie.Need-returns
 returns c =
     let t = c .before .before in
@@ -35,11 +20,4 @@ returns c =
 
 pub add-spec : {M : Type 1} → statement M
 add-spec =
-    tie.close
-    (tie.spec
-    cast-sum-of-products
-    cast-sum-of-products-2
-    sum-of-products-requires
-    common-requires
-    checked-requires
-    returns)
+    tie.close (tie.spec (λ c. search needs) (λ c. search needs) (λ c κs. search needs) (λ c κs. search needs) (λ c κs. search needs) returns)

@@ -11,23 +11,11 @@ use borrow.Author.Needs.{needs}
 use Rattle.beats.proofs.sums.checked.Statement.{statement}
 use Rattle.beats.proofs.sums.checked.Tie as tie
 
-in-i64-requires : tie.Need-in-i64-requires
-in-i64-requires c κs = search needs
-
 returns : tie.Need-returns
 returns c = let s = c .before .before .args in too-large (valueOf (s .num)) (s .den) (sym (c .before .in-i64 .ensures) ∙ not-true _ (c .if1 .taken))
 
 returns-2 : tie.Need-returns-2
 returns-2 c = let s = c .before .before .before .args in too-fine (valueOf (s .num)) (s .den) (c .if2 .taken)
-
-to-i64-requires : tie.Need-to-i64-requires
-to-i64-requires c κs = search needs
-
-cast-new : tie.Need-cast-new
-cast-new c = search needs
-
-new-requires : tie.Need-new-requires
-new-requires c κs = search needs
 
 returns-3 : tie.Need-returns-3
 returns-3 c =
@@ -38,5 +26,4 @@ returns-3 c =
 
 pub checked-spec : {M : Type 1} → statement M
 checked-spec =
-    tie.close
-    (tie.spec in-i64-requires returns returns-2 to-i64-requires cast-new new-requires returns-3)
+    tie.close (tie.spec (λ c κs. search needs) returns returns-2 (λ c κs. search needs) (λ c. search needs) (λ c κs. search needs) returns-3)

@@ -7,8 +7,6 @@ use Rattle.beats.proofs.sums.common.Tie as tie
 mul-result : tie.Need-mul-result
 mul-result c = record { fits = product-fits _ _ (search needs) (search needs) }
 
-returns : tie.Need-returns
-returns c = search needs
-
 pub common-spec : {M : Type 1} → statement M
-common-spec = tie.close (tie.spec mul-result returns)
+common-spec =
+    tie.close (tie.spec mul-result (λ c. search needs))

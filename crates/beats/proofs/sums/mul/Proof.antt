@@ -10,15 +10,6 @@ use borrow.Author.Needs.{needs}
 use Rattle.beats.proofs.sums.mul.Statement.{statement}
 use Rattle.beats.proofs.sums.mul.Tie as tie
 
-product-requires : tie.Need-product-requires
-product-requires c κs = search needs
-
-common-requires : tie.Need-common-requires
-common-requires c κs = search needs
-
-checked-requires : tie.Need-checked-requires
-checked-requires c κs = search needs
-
 returns : tie.Need-returns
 returns c =
     let t = c .before .before in
@@ -29,4 +20,5 @@ returns c =
     c .checked .ensures ∙ (λ i. fitted (z i) (c .before .common .ensures i))
 
 pub mul-spec : {M : Type 1} → statement M
-mul-spec = tie.close (tie.spec product-requires common-requires checked-requires returns)
+mul-spec =
+    tie.close (tie.spec (λ c κs. search needs) (λ c κs. search needs) (λ c κs. search needs) returns)

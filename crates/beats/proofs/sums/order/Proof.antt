@@ -8,9 +8,6 @@ use borrow.Author.Needs.{needs}
 use Rattle.beats.proofs.sums.order.Statement.{statement}
 use Rattle.beats.proofs.sums.order.Tie as tie
 
-order-of-products-requires : tie.Need-order-of-products-requires
-order-of-products-requires c κs = search needs
-
 returns : tie.Need-returns
 returns c =
     let t = c .before in
@@ -20,4 +17,5 @@ returns c =
     c .order-of-products .ensures ∙ (λ i. orderOf (x i *ℤ pos (s .b .den) -ℤ y i *ℤ pos (s .a .den)))
 
 pub order-spec : {M : Type 1} → statement M
-order-spec = tie.close (tie.spec order-of-products-requires returns)
+order-spec =
+    tie.close (tie.spec (λ c κs. search needs) returns)

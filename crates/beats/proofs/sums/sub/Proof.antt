@@ -9,21 +9,6 @@ use borrow.Author.Needs.{needs}
 use Rattle.beats.proofs.sums.sub.Statement.{statement}
 use Rattle.beats.proofs.sums.sub.Tie as tie
 
-cast-difference-of-products : tie.Need-cast-difference-of-products
-cast-difference-of-products c = search needs
-
-cast-difference-of-products-2 : tie.Need-cast-difference-of-products-2
-cast-difference-of-products-2 c = search needs
-
-difference-of-products-requires : tie.Need-difference-of-products-requires
-difference-of-products-requires c κs = search needs
-
-common-requires : tie.Need-common-requires
-common-requires c κs = search needs
-
-checked-requires : tie.Need-checked-requires
-checked-requires c κs = search needs
-
 returns : tie.Need-returns
 returns c =
     let t = c .before .before in
@@ -35,11 +20,4 @@ returns c =
 
 pub sub-spec : {M : Type 1} → statement M
 sub-spec =
-    tie.close
-    (tie.spec
-    cast-difference-of-products
-    cast-difference-of-products-2
-    difference-of-products-requires
-    common-requires
-    checked-requires
-    returns)
+    tie.close (tie.spec (λ c. search needs) (λ c. search needs) (λ c κs. search needs) (λ c κs. search needs) (λ c κs. search needs) returns)

@@ -10,45 +10,8 @@ Inv-loop t lines out₀ turns sum₀ i₀ out sum i = Unit {0}
 abbrev μ-loop : tie.MeasureT-loop
 μ-loop t lines out₀ turns sum₀ i₀ out sum i = turns - i
 
-loop-holds : tie.Need-loop-holds Inv-loop μ-loop
-loop-holds c = search needs
-
-sub-frames : tie.Need-sub-frames Inv-loop μ-loop
-sub-frames c = search needs
-
-cue-requires : tie.Need-cue-requires Inv-loop μ-loop
-cue-requires c κs = search needs
-
-word-requires : tie.Need-word-requires Inv-loop μ-loop
-word-requires c κs = search needs
-
-mixed-requires : tie.Need-mixed-requires Inv-loop μ-loop
-mixed-requires c κs = search needs
-
-add-i : tie.Need-add-i Inv-loop μ-loop
-add-i c = search needs
-
-loop-less : tie.Need-loop-less Inv-loop μ-loop
-loop-less c = search needs
-
-loop-again : tie.Need-loop-again Inv-loop μ-loop
-loop-again c = search needs
-
-returns : tie.Need-returns Inv-loop μ-loop
-returns c = search needs
-
 pub far-spec : {M : Type 1} → statement M
 far-spec =
     tie.close
-    (tie.spec
-    Inv-loop
-    μ-loop
-    loop-holds
-    sub-frames
-    cue-requires
-    word-requires
-    mixed-requires
-    add-i
-    loop-less
-    loop-again
-    returns)
+    (tie.spec Inv-loop μ-loop (λ c. search needs) (λ c. search needs) (λ c κs. search needs) (λ c κs. search needs) (λ c κs. search needs) (λ c. search needs) (λ c. search needs)
+    (λ c. search needs) (λ c. search needs))

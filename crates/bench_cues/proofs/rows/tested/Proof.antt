@@ -16,24 +16,6 @@ Inv-loop lines frames out₀ turns sum₀ now₀ counter₀ out sum now counter 
 abbrev μ-loop : tie.MeasureT-loop
 μ-loop lines frames out₀ turns sum₀ now₀ counter₀ out sum now counter = turns - counter
 
-loop-holds : tie.Need-loop-holds Inv-loop μ-loop
-loop-holds c = search needs
-
-tested-requires : tie.Need-tested-requires Inv-loop μ-loop
-tested-requires c κs = search needs
-
-word-requires : tie.Need-word-requires Inv-loop μ-loop
-word-requires c κs = search needs
-
-mixed-requires : tie.Need-mixed-requires Inv-loop μ-loop
-mixed-requires c κs = search needs
-
-add-counter : tie.Need-add-counter Inv-loop μ-loop
-add-counter c = search needs
-
-loop-less : tie.Need-loop-less Inv-loop μ-loop
-loop-less c = search needs
-
 loop-again : tie.Need-loop-again Inv-loop μ-loop
 loop-again c =
     let called = c .before .before .before .before in
@@ -41,20 +23,8 @@ loop-again c =
     let asked = called .before .before .before .before .before .args in
     ap (λ (handed : Handed Said). sound (handed .transport)) (called .tested .ensures .0) ∙ kept (was .now) (was .inv) (asked .frames) (asked .lines .now) (was .out)
 
-returns : tie.Need-returns Inv-loop μ-loop
-returns c = search needs
-
 pub tested-spec : {M : Type 1} → statement M
 tested-spec =
     tie.close
-    (tie.spec
-    Inv-loop
-    μ-loop
-    loop-holds
-    tested-requires
-    word-requires
-    mixed-requires
-    add-counter
-    loop-less
-    loop-again
-    returns)
+    (tie.spec Inv-loop μ-loop (λ c. search needs) (λ c κs. search needs) (λ c κs. search needs) (λ c κs. search needs) (λ c. search needs) (λ c. search needs) loop-again
+    (λ c. search needs))

@@ -10,49 +10,8 @@ Inv-loop questions₀ span k₀ questions k = Unit {0}
 abbrev μ-loop : tie.MeasureT-loop
 μ-loop questions₀ span k₀ questions k = 8192 - k
 
-loop-holds : tie.Need-loop-holds Inv-loop μ-loop
-loop-holds c = search needs
-
-place-requires : tie.Need-place-requires Inv-loop μ-loop
-place-requires c κs = search needs
-
-int-to-float-questions : tie.Need-int-to-float-questions Inv-loop μ-loop
-int-to-float-questions c = search needs
-
-int-to-float-questions-2 : tie.Need-int-to-float-questions-2 Inv-loop μ-loop
-int-to-float-questions-2 c = search needs
-
-mul-questions : tie.Need-mul-questions Inv-loop μ-loop
-mul-questions c = search needs
-
-element-write-questions : tie.Need-element-write-questions Inv-loop μ-loop
-element-write-questions c = search needs
-
-add-k : tie.Need-add-k Inv-loop μ-loop
-add-k c = search needs
-
-loop-less : tie.Need-loop-less Inv-loop μ-loop
-loop-less c = search needs
-
-loop-again : tie.Need-loop-again Inv-loop μ-loop
-loop-again c = search needs
-
-returns : tie.Need-returns Inv-loop μ-loop
-returns c = search needs
-
 pub fill-questions-spec : {M : Type 1} → statement M
 fill-questions-spec =
     tie.close
-    (tie.spec
-    Inv-loop
-    μ-loop
-    loop-holds
-    place-requires
-    int-to-float-questions
-    int-to-float-questions-2
-    mul-questions
-    element-write-questions
-    add-k
-    loop-less
-    loop-again
-    returns)
+    (tie.spec Inv-loop μ-loop (λ c. search needs) (λ c κs. search needs) (λ c. search needs) (λ c. search needs) (λ c. search needs) (λ c. search needs) (λ c. search needs)
+    (λ c. search needs) (λ c. search needs) (λ c. search needs))

@@ -17,30 +17,6 @@ abbrev μ-loop : tie.MeasureT-loop
 loop-holds : tie.Need-loop-holds Inv-loop μ-loop
 loop-holds c = (none (spreadAt (c .args .span)) _, omega arith)
 
-place-requires : tie.Need-place-requires Inv-loop μ-loop
-place-requires c κs = search needs
-
-cast-at : tie.Need-cast-at Inv-loop μ-loop
-cast-at c = search needs
-
-saturating-mul-requires : tie.Need-saturating-mul-requires Inv-loop μ-loop
-saturating-mul-requires c κs = search needs
-
-to-u32-requires : tie.Need-to-u32-requires Inv-loop μ-loop
-to-u32-requires c κs = search needs
-
-mul-questions : tie.Need-mul-questions Inv-loop μ-loop
-mul-questions c = search needs
-
-element-write-questions : tie.Need-element-write-questions Inv-loop μ-loop
-element-write-questions c = search needs
-
-add-k : tie.Need-add-k Inv-loop μ-loop
-add-k c = search needs
-
-loop-less : tie.Need-loop-less Inv-loop μ-loop
-loop-less c = search needs
-
 loop-again : tie.Need-loop-again Inv-loop μ-loop
 loop-again c =
     let l = c .before .before .before .before .loop in
@@ -55,17 +31,5 @@ returns c = let l = c .before .loop in lent (spreadAt (c .before .before .args .
 pub fill-spread-spec : {M : Type 1} → statement M
 fill-spread-spec =
     tie.close
-    (tie.spec
-    Inv-loop
-    μ-loop
-    loop-holds
-    place-requires
-    cast-at
-    saturating-mul-requires
-    to-u32-requires
-    mul-questions
-    element-write-questions
-    add-k
-    loop-less
-    loop-again
-    returns)
+    (tie.spec Inv-loop μ-loop loop-holds (λ c κs. search needs) (λ c. search needs) (λ c κs. search needs) (λ c κs. search needs) (λ c. search needs) (λ c. search needs)
+    (λ c. search needs) (λ c. search needs) loop-again returns)

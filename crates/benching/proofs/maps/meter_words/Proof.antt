@@ -20,66 +20,6 @@ abbrev μ-loop : tie.MeasureT-loop
 loop-holds : tie.Need-loop-holds Inv-loop μ-loop
 loop-holds c = (none meterPoint _, omega arith, begins)
 
-next-requires : tie.Need-next-requires Inv-loop μ-loop
-next-requires c κs = search needs
-
-mul-map : tie.Need-mul-map Inv-loop μ-loop
-mul-map c = search needs
-
-cast-map : tie.Need-cast-map Inv-loop μ-loop
-cast-map c = search needs
-
-mul-map-2 : tie.Need-mul-map-2 Inv-loop μ-loop
-mul-map-2 c = search needs
-
-mul-map-3 : tie.Need-mul-map-3 Inv-loop μ-loop
-mul-map-3 c = search needs
-
-array-write-map : tie.Need-array-write-map Inv-loop μ-loop
-array-write-map c = search needs
-
-add-map : tie.Need-add-map Inv-loop μ-loop
-add-map c = search needs
-
-cast-map-2 : tie.Need-cast-map-2 Inv-loop μ-loop
-cast-map-2 c = search needs
-
-mul-map-4 : tie.Need-mul-map-4 Inv-loop μ-loop
-mul-map-4 c = search needs
-
-add-map-2 : tie.Need-add-map-2 Inv-loop μ-loop
-add-map-2 c = search needs
-
-mul-map-5 : tie.Need-mul-map-5 Inv-loop μ-loop
-mul-map-5 c = search needs
-
-array-write-map-2 : tie.Need-array-write-map-2 Inv-loop μ-loop
-array-write-map-2 c = search needs
-
-denominator-requires : tie.Need-denominator-requires Inv-loop μ-loop
-denominator-requires c κs = search needs
-
-mul-map-6 : tie.Need-mul-map-6 Inv-loop μ-loop
-mul-map-6 c = search needs
-
-add-map-3 : tie.Need-add-map-3 Inv-loop μ-loop
-add-map-3 c = search needs
-
-mul-map-7 : tie.Need-mul-map-7 Inv-loop μ-loop
-mul-map-7 c = search needs
-
-array-write-map-3 : tie.Need-array-write-map-3 Inv-loop μ-loop
-array-write-map-3 c = search needs
-
-next-requires-2 : tie.Need-next-requires-2 Inv-loop μ-loop
-next-requires-2 c κs = search needs
-
-add-k : tie.Need-add-k Inv-loop μ-loop
-add-k c = search needs
-
-loop-less : tie.Need-loop-less Inv-loop μ-loop
-loop-less c = search needs
-
 loop-again : tie.Need-loop-again Inv-loop μ-loop
 loop-again c =
     let l = c .before .before .before .before .loop in
@@ -96,29 +36,6 @@ returns c = let l = c .before .loop in whole meterPoint _ (l .map) (l .k) (3 * l
 pub meter-words-spec : {M : Type 1} → statement M
 meter-words-spec =
     tie.close
-    (tie.spec
-    Inv-loop
-    μ-loop
-    loop-holds
-    next-requires
-    mul-map
-    cast-map
-    mul-map-2
-    mul-map-3
-    array-write-map
-    add-map
-    cast-map-2
-    mul-map-4
-    add-map-2
-    mul-map-5
-    array-write-map-2
-    denominator-requires
-    mul-map-6
-    add-map-3
-    mul-map-7
-    array-write-map-3
-    next-requires-2
-    add-k
-    loop-less
-    loop-again
-    returns)
+    (tie.spec Inv-loop μ-loop loop-holds (λ c κs. search needs) (λ c. search needs) (λ c. search needs) (λ c. search needs) (λ c. search needs) (λ c. search needs)
+    (λ c. search needs) (λ c. search needs) (λ c. search needs) (λ c. search needs) (λ c. search needs) (λ c. search needs) (λ c κs. search needs) (λ c. search needs)
+    (λ c. search needs) (λ c. search needs) (λ c. search needs) (λ c κs. search needs) (λ c. search needs) (λ c. search needs) loop-again returns)

@@ -21,30 +21,6 @@ abbrev μ-loop : tie.MeasureT-loop
 loop-holds : tie.Need-loop-holds Inv-loop μ-loop
 loop-holds c = (none tempoBits _, omega arith, begins)
 
-cast-tempos : tie.Need-cast-tempos Inv-loop μ-loop
-cast-tempos c = search needs
-
-add-tempos : tie.Need-add-tempos Inv-loop μ-loop
-add-tempos c = search needs
-
-mul-tempos : tie.Need-mul-tempos Inv-loop μ-loop
-mul-tempos c = search needs
-
-array-write-tempos : tie.Need-array-write-tempos Inv-loop μ-loop
-array-write-tempos c = search needs
-
-next-requires : tie.Need-next-requires Inv-loop μ-loop
-next-requires c κs = search needs
-
-next-requires-2 : tie.Need-next-requires-2 Inv-loop μ-loop
-next-requires-2 c κs = search needs
-
-add-k : tie.Need-add-k Inv-loop μ-loop
-add-k c = search needs
-
-loop-less : tie.Need-loop-less Inv-loop μ-loop
-loop-less c = search needs
-
 loop-again : tie.Need-loop-again Inv-loop μ-loop
 loop-again c =
     let l = c .before .before .before .loop in
@@ -58,17 +34,5 @@ returns c = let l = c .before .loop in whole tempoBits _ (l .tempos) (l .k) (l .
 pub tempo-bits-spec : {M : Type 1} → statement M
 tempo-bits-spec =
     tie.close
-    (tie.spec
-    Inv-loop
-    μ-loop
-    loop-holds
-    cast-tempos
-    add-tempos
-    mul-tempos
-    array-write-tempos
-    next-requires
-    next-requires-2
-    add-k
-    loop-less
-    loop-again
-    returns)
+    (tie.spec Inv-loop μ-loop loop-holds (λ c. search needs) (λ c. search needs) (λ c. search needs) (λ c. search needs) (λ c κs. search needs) (λ c κs. search needs)
+    (λ c. search needs) (λ c. search needs) loop-again returns)

@@ -21,24 +21,6 @@ abbrev μ-loop : tie.MeasureT-loop
 loop-holds : tie.Need-loop-holds Inv-loop μ-loop
 loop-holds c = (none tempoNum _, omega arith)
 
-mul-nums : tie.Need-mul-nums Inv-loop μ-loop
-mul-nums c = search needs
-
-cast-nums : tie.Need-cast-nums Inv-loop μ-loop
-cast-nums c = search needs
-
-mul-nums-2 : tie.Need-mul-nums-2 Inv-loop μ-loop
-mul-nums-2 c = search needs
-
-array-set-from-nums : tie.Need-array-set-from-nums Inv-loop μ-loop
-array-set-from-nums c = search needs
-
-add-k : tie.Need-add-k Inv-loop μ-loop
-add-k c = search needs
-
-loop-less : tie.Need-loop-less Inv-loop μ-loop
-loop-less c = search needs
-
 loop-again : tie.Need-loop-again Inv-loop μ-loop
 loop-again c =
     let l = c .before .loop in
@@ -50,15 +32,4 @@ returns c = let l = c .before .loop in whole tempoNum _ (l .nums) (l .k) (l .k) 
 pub tempo-nums-spec : {M : Type 1} → statement M
 tempo-nums-spec =
     tie.close
-    (tie.spec
-    Inv-loop
-    μ-loop
-    loop-holds
-    mul-nums
-    cast-nums
-    mul-nums-2
-    array-set-from-nums
-    add-k
-    loop-less
-    loop-again
-    returns)
+    (tie.spec Inv-loop μ-loop loop-holds (λ c. search needs) (λ c. search needs) (λ c. search needs) (λ c. search needs) (λ c. search needs) (λ c. search needs) loop-again returns)

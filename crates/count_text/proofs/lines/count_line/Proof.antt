@@ -20,15 +20,6 @@ short c =
 amount-requires : tie.Need-amount-requires
 amount-requires c κs = (omega arith, omega arith, omega arith)
 
-unit-requires : tie.Need-unit-requires
-unit-requires c κs = omega arith
-
-slice-aggregate-bytes : tie.Need-slice-aggregate-bytes
-slice-aggregate-bytes c = search needs
-
-bytes-requires : tie.Need-bytes-requires
-bytes-requires c κs = omega arith
-
 beat-requires : tie.Need-beat-requires
 beat-requires c κs =
     let text = c .before .before .before in
@@ -44,9 +35,6 @@ byte-requires c κs =
     let amount = unit .before .before .before .before in
     omega (arith, short (amount .before .before .before), beat .beat .ensures .next-is, text .bytes .ensures .next-is, unit .unit .ensures .1, amount .amount .ensures .1)
 
-same-length : tie.Need-same-length
-same-length c = search needs
-
 returns : tie.Need-returns
 returns c =
     let end = c .before .before .byte .ensures in
@@ -61,13 +49,4 @@ returns c =
 
 pub count-line-spec : {M : Type 1} → statement M
 count-line-spec =
-    tie.close
-    (tie.spec
-    amount-requires
-    unit-requires
-    slice-aggregate-bytes
-    bytes-requires
-    beat-requires
-    byte-requires
-    same-length
-    returns)
+    tie.close (tie.spec amount-requires (λ c κs. omega arith) (λ c. search needs) (λ c κs. omega arith) beat-requires byte-requires (λ c. search needs) returns)

@@ -5,17 +5,11 @@ use Rattle.count_text.proofs.Parts.{lines-put}
 use Rattle.count_text.proofs.lines.lines.Statement.{statement}
 use Rattle.count_text.proofs.lines.lines.Tie as tie
 
-count-line-requires : tie.Need-count-line-requires
-count-line-requires c κs = omega arith
-
 fits-line-requires : tie.Need-fits-line-requires
 fits-line-requires c κs = omega (arith, c .before .before .before .count-line .ensures .1)
 
 row-line-requires : tie.Need-row-line-requires
 row-line-requires c κs = omega (arith, c .before .before .before .fits-line .ensures .1, c .before .before .before .before .before .before .before .count-line .ensures .1)
-
-same-length : tie.Need-same-length
-same-length c = search needs
 
 returns : tie.Need-returns
 returns c =
@@ -27,10 +21,4 @@ returns c =
 
 pub lines-spec : {M : Type 1} → statement M
 lines-spec =
-    tie.close
-    (tie.spec
-    count-line-requires
-    fits-line-requires
-    row-line-requires
-    same-length
-    returns)
+    tie.close (tie.spec (λ c κs. omega arith) fits-line-requires row-line-requires (λ c. search needs) returns)

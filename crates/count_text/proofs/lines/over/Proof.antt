@@ -8,20 +8,11 @@ use Rattle.count_text.proofs.lines.over.Tie as tie
 returns : tie.Need-returns
 returns c = (none-over _ _ _ (c .if1 .taken), omega arith)
 
-byte-requires : tie.Need-byte-requires
-byte-requires c κs = omega arith
-
 amount-requires : tie.Need-amount-requires
 amount-requires c κs = (omega (arith, c .before .before .before .byte .ensures .next-is), omega arith, omega arith)
 
-slice-aggregate-bytes : tie.Need-slice-aggregate-bytes
-slice-aggregate-bytes c = search needs
-
 bytes-requires : tie.Need-bytes-requires
 bytes-requires c κs = omega (arith, c .before .before .before .before .amount .ensures .1, c .before .before .before .before .before .before .before .before .byte .ensures .next-is)
-
-same-length : tie.Need-same-length
-same-length c = search needs
 
 returns-2 : tie.Need-returns-2
 returns-2 c =
@@ -33,12 +24,4 @@ returns-2 c =
 
 pub over-spec : {M : Type 1} → statement M
 over-spec =
-    tie.close
-    (tie.spec
-    returns
-    byte-requires
-    amount-requires
-    slice-aggregate-bytes
-    bytes-requires
-    same-length
-    returns-2)
+    tie.close (tie.spec returns (λ c κs. omega arith) amount-requires (λ c. search needs) bytes-requires (λ c. search needs) returns-2)

@@ -5,23 +5,11 @@ use Rattle.count_text.proofs.Parts.{row-put}
 use Rattle.count_text.proofs.lines.row.Statement.{statement}
 use Rattle.count_text.proofs.lines.row.Tie as tie
 
-filled-requires : tie.Need-filled-requires
-filled-requires c κs = search needs
-
-byte-requires : tie.Need-byte-requires
-byte-requires c κs = omega arith
-
-cast-squares : tie.Need-cast-squares
-cast-squares c = search needs
-
 squares-requires : tie.Need-squares-requires
 squares-requires c κs = omega (arith, c .before .before .before .byte .ensures .next-is, c .before .before .before .before .before .filled .ensures)
 
 sub-squares : tie.Need-sub-squares
 sub-squares c = omega (arith, c .before .before .before .before .before .before .before .before .before .filled .ensures)
-
-cast-squares-2 : tie.Need-cast-squares-2
-cast-squares-2 c = omega arith
 
 squares-requires-2 : tie.Need-squares-requires-2
 squares-requires-2 c κs = omega (arith, c .before .before .before .squares .ensures .1, c .before .before .before .before .before .before .before .byte .ensures .next-is, c .before .before .before .before .before .before .before .before .before .filled .ensures)
@@ -32,9 +20,6 @@ byte-requires-2 c κs =
     let front = behind .before .before .before .before in
     let start = front .before .before .before .before in
     omega (arith, behind .squares2 .ensures .1, front .squares .ensures .1, start .byte .ensures .next-is, start .before .before .filled .ensures)
-
-same-length : tie.Need-same-length
-same-length c = search needs
 
 returns : tie.Need-returns
 returns c =
@@ -49,14 +34,5 @@ returns c =
 pub row-spec : {M : Type 1} → statement M
 row-spec =
     tie.close
-    (tie.spec
-    filled-requires
-    byte-requires
-    cast-squares
-    squares-requires
-    sub-squares
-    cast-squares-2
-    squares-requires-2
-    byte-requires-2
-    same-length
-    returns)
+    (tie.spec (λ c κs. search needs) (λ c κs. omega arith) (λ c. search needs) squares-requires sub-squares (λ c. omega arith) squares-requires-2 byte-requires-2
+    (λ c. search needs) returns)

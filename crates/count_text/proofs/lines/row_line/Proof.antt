@@ -5,17 +5,11 @@ use Rattle.count_text.proofs.Parts.{row-line-put}
 use Rattle.count_text.proofs.lines.row_line.Statement.{statement}
 use Rattle.count_text.proofs.lines.row_line.Tie as tie
 
-row-requires : tie.Need-row-requires
-row-requires c κs = omega arith
-
 over-requires : tie.Need-over-requires
 over-requires c κs = omega (arith, c .before .before .before .row .ensures .1)
 
 byte-requires : tie.Need-byte-requires
 byte-requires c κs = omega (arith, c .before .before .before .over .ensures .1, c .before .before .before .before .before .before .before .row .ensures .1)
-
-same-length : tie.Need-same-length
-same-length c = search needs
 
 returns : tie.Need-returns
 returns c =
@@ -26,10 +20,4 @@ returns c =
 
 pub row-line-spec : {M : Type 1} → statement M
 row-line-spec =
-    tie.close
-    (tie.spec
-    row-requires
-    over-requires
-    byte-requires
-    same-length
-    returns)
+    tie.close (tie.spec (λ c κs. omega arith) over-requires byte-requires (λ c. search needs) returns)

@@ -19,24 +19,12 @@ abbrev μ-loop : tie.MeasureT-loop
 loop-holds : tie.Need-loop-holds Inv-loop μ-loop
 loop-holds c = (omega arith, refl, omega arith, no-squares _ _ _)
 
-byte-requires : tie.Need-byte-requires Inv-loop μ-loop
-byte-requires c κs = omega arith
-
-add-i : tie.Need-add-i Inv-loop μ-loop
-add-i c = omega arith
-
-loop-less : tie.Need-loop-less Inv-loop μ-loop
-loop-less c = omega arith
-
 loop-again : tie.Need-loop-again Inv-loop μ-loop
 loop-again c =
     let l = c .before .before .before .before .before in
     let put = c .before .before .byte .ensures in
     let next = one-square (l .before .before .args .square) (l .loop .i) (omega arith) (l .loop .inv .3) put in
     (omega arith, omega arith, omega (arith, put .next-is), next)
-
-same-length : tie.Need-same-length Inv-loop μ-loop
-same-length c = search needs
 
 returns : tie.Need-returns Inv-loop μ-loop
 returns c =
@@ -47,14 +35,4 @@ returns c =
 
 pub squares-spec : {M : Type 1} → statement M
 squares-spec =
-    tie.close
-    (tie.spec
-    Inv-loop
-    μ-loop
-    loop-holds
-    byte-requires
-    add-i
-    loop-less
-    loop-again
-    same-length
-    returns)
+    tie.close (tie.spec Inv-loop μ-loop loop-holds (λ c κs. omega arith) (λ c. omega arith) (λ c. omega arith) loop-again (λ c. search needs) returns)

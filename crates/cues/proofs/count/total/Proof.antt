@@ -5,9 +5,6 @@ use Rattle.cues.proofs.Counting.{ends-over, no-lap, laps-over, product-
 use Rattle.cues.proofs.count.total.Statement.{statement}
 use Rattle.cues.proofs.count.total.Tie as tie
 
-add-ends : tie.Need-add-ends
-add-ends c = search needs
-
 returns : tie.Need-returns
 returns c =
     let a = c .before .args in
@@ -17,9 +14,6 @@ returns-2 : tie.Need-returns-2
 returns-2 c =
     let a = c .before .before .args in
     no-lap (a .first) (a .lap) (a .laps) (a .last) (a .room) (c .if2 .taken) (c .before .if1 .left)
-
-div-if3 : tie.Need-div-if3
-div-if3 c = search needs
 
 returns-3 : tie.Need-returns-3
 returns-3 c =
@@ -43,4 +37,4 @@ returns-4 c =
 
 pub total-spec : {M : Type 1} → statement M
 total-spec =
-    tie.close (tie.spec add-ends returns returns-2 div-if3 returns-3 mul-t9 add-t10 returns-4)
+    tie.close (tie.spec (λ c. search needs) returns returns-2 (λ c. search needs) returns-3 mul-t9 add-t10 returns-4)

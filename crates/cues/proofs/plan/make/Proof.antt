@@ -6,22 +6,10 @@ use Rattle.cues.proofs.Planning.{loop-good, before-end, past-end, all-s
 use Rattle.cues.proofs.plan.make.Statement.{statement}
 use Rattle.cues.proofs.plan.make.Tie as tie
 
-enum-told : tie.Need-enum-told
-enum-told c = search needs
-
 sub-left : tie.Need-sub-left
 sub-left c =
     let s = c .before .before .before in
     sound-position (s .args .t) (s .pre .fit)
-
-straight-requires : tie.Need-straight-requires
-straight-requires c κs = search needs
-
-straight-requires-2 : tie.Need-straight-requires-2
-straight-requires-2 c κs = search needs
-
-enum-known-looping : tie.Need-enum-known-looping
-enum-known-looping c = search needs
 
 looped-requires : tie.Need-looped-requires
 looped-requires c κs =
@@ -74,19 +62,5 @@ returns-4 c =
 pub make-spec : {M : Type 1} → statement M
 make-spec =
     tie.close
-    (tie.spec
-    enum-told
-    sub-left
-    straight-requires
-    straight-requires-2
-    enum-known-looping
-    looped-requires
-    sub-looped
-    sub-looped-2
-    rem-looped
-    add-looped
-    looped-requires-2
-    returns
-    returns-2
-    returns-3
-    returns-4)
+    (tie.spec (λ c. search needs) sub-left (λ c κs. search needs) (λ c κs. search needs) (λ c. search needs) looped-requires sub-looped sub-looped-2 rem-looped add-looped
+    looped-requires-2 returns returns-2 returns-3 returns-4)

@@ -53,40 +53,13 @@ found c = record {
   last-is = c .part-from3 .ensures;
 }
 
-place-of-requires : tie.Need-place-of-requires
-place-of-requires c κs = search needs
-
-add-part-from : tie.Need-add-part-from
-add-part-from c = search needs
-
-part-from-requires : tie.Need-part-from-requires
-part-from-requires c κs = search needs
-
 place-from-requires : tie.Need-place-from-requires
 place-from-requires c κs =
     let s = c .before .before .before .before .before in
     (s .pre .0, anywhere (s .args .p .start) (s .args .lines .now))
 
-add-part-from-2 : tie.Need-add-part-from-2
-add-part-from-2 c = search needs
-
-part-from-requires-2 : tie.Need-part-from-requires-2
-part-from-requires-2 c κs = search needs
-
-add-part-from-3 : tie.Need-add-part-from-3
-add-part-from-3 c = search needs
-
-part-from-requires-3 : tie.Need-part-from-requires-3
-part-from-requires-3 c κs = search needs
-
 total-requires : tie.Need-total-requires
 total-requires c κs = ends-few (startOf c .args .lines .now) (startOf c .args .p) _ _ _ _ _ (found c)
-
-enum-told : tie.Need-enum-told
-enum-told c = search needs
-
-enum-known-n : tie.Need-enum-known-n
-enum-known-n c = search needs
 
 part-requires : tie.Need-part-requires
 part-requires c κs =
@@ -133,9 +106,6 @@ returns c =
       none-left (startOf f .args .lines .now) (startOf f .args .p) _ _ _ _ _ (found f) (startOf f .args .out .now) _ (t .total .ensures) (c .enum-told .given .1),
     )
 
-same-length : tie.Need-same-length
-same-length c = search needs
-
 returns-2 : tie.Need-returns-2
 returns-2 c =
     let l = c .before .before .before .before .before .before .before .before in
@@ -151,23 +121,6 @@ returns-2 c =
 pub fill-spec : {M : Type 1} → statement M
 fill-spec =
     tie.close
-    (tie.spec
-    place-of-requires
-    add-part-from
-    part-from-requires
-    place-from-requires
-    add-part-from-2
-    part-from-requires-2
-    add-part-from-3
-    part-from-requires-3
-    total-requires
-    enum-told
-    enum-known-n
-    part-requires
-    laps-requires
-    mul-part
-    add-part
-    part-requires-2
-    returns
-    same-length
+    (tie.spec (λ c κs. search needs) (λ c. search needs) (λ c κs. search needs) place-from-requires (λ c. search needs) (λ c κs. search needs) (λ c. search needs)
+    (λ c κs. search needs) total-requires (λ c. search needs) (λ c. search needs) part-requires laps-requires mul-part add-part part-requires-2 returns (λ c. search needs)
     returns-2)

@@ -6,12 +6,6 @@ use Rattle.cues.proofs.Answering.{out-of-reach, no-room, in-room}
 use Rattle.cues.proofs.play.played.Statement.{statement}
 use Rattle.cues.proofs.play.played.Tie as tie
 
-sub-if1 : tie.Need-sub-if1
-sub-if1 c = search needs
-
-refused-requires : tie.Need-refused-requires
-refused-requires c κs = search needs
-
 returns : tie.Need-returns
 returns c =
     let s = c .before .before .before .before .before in
@@ -26,21 +20,6 @@ fill-requires c κs =
     let fine = fine-lines (s .args .lines .now) (s .pre .1) in
     (fine .1, fine .0, c .before .make .ensures .fits)
 
-enum-told : tie.Need-enum-told
-enum-told c = search needs
-
-refused-requires-2 : tie.Need-refused-requires-2
-refused-requires-2 c κs = search needs
-
-enum-known-n : tie.Need-enum-known-n
-enum-known-n c = search needs
-
-advanced-requires : tie.Need-advanced-requires
-advanced-requires c κs = search needs
-
-same-length : tie.Need-same-length
-same-length c = search needs
-
 returns-2 : tie.Need-returns-2
 returns-2 c =
     let f = c .before .before .before .before .before in
@@ -48,9 +27,6 @@ returns-2 c =
     let s = m .before .before .before .before .before in
     no-room (s .args .t) (s .args .lines .now) (s .args .frames) (s .args .out .now) (s .pre .0) (s .pre .1) (s .pre .2) (make-requires (m .before) _ .reach)
     _ (m .make .ensures) _ _ (f .fill .ensures) (c .before .enum-told .given .1) _ (c .refused2 .ensures)
-
-same-length-2 : tie.Need-same-length-2
-same-length-2 c = search needs
 
 returns-3 : tie.Need-returns-3
 returns-3 c =
@@ -64,17 +40,5 @@ returns-3 c =
 pub played-spec : {M : Type 1} → statement M
 played-spec =
     tie.close
-    (tie.spec
-    sub-if1
-    refused-requires
-    returns
-    make-requires
-    fill-requires
-    enum-told
-    refused-requires-2
-    enum-known-n
-    advanced-requires
-    same-length
-    returns-2
-    same-length-2
-    returns-3)
+    (tie.spec (λ c. search needs) (λ c κs. search needs) returns make-requires fill-requires (λ c. search needs) (λ c κs. search needs) (λ c. search needs) (λ c κs. search needs)
+    (λ c. search needs) returns-2 (λ c. search needs) returns-3)

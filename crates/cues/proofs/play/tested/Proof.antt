@@ -5,15 +5,6 @@ use Rattle.cues.proofs.Answering.{idle}
 use Rattle.cues.proofs.play.tested.Statement.{statement}
 use Rattle.cues.proofs.play.tested.Tie as tie
 
-is-playing-requires : tie.Need-is-playing-requires
-is-playing-requires c κs = search needs
-
-played-requires : tie.Need-played-requires
-played-requires c κs = search needs
-
-same-length : tie.Need-same-length
-same-length c = search needs
-
 returns : tie.Need-returns
 returns c = c .before .before .played .ensures
 
@@ -24,4 +15,4 @@ returns-2 c =
 
 pub tested-spec : {M : Type 1} → statement M
 tested-spec =
-    tie.close (tie.spec is-playing-requires played-requires same-length returns returns-2)
+    tie.close (tie.spec (λ c κs. search needs) (λ c κs. search needs) (λ c. search needs) returns returns-2)

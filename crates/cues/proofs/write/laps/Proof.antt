@@ -40,12 +40,6 @@ add-begins c =
     in
     record { fits = omega (arith, k) }
 
-sub-left : tie.Need-sub-left Inv-loop μ-loop
-sub-left c = search needs
-
-loop-less : tie.Need-loop-less Inv-loop μ-loop
-loop-less c = search needs
-
 loop-again : tie.Need-loop-again Inv-loop μ-loop
 loop-again c =
     let l = c .before .before .before .before .before in
@@ -65,16 +59,4 @@ returns-2 c =
 
 pub laps-spec : {M : Type 1} → statement M
 laps-spec =
-    tie.close
-    (tie.spec
-    Inv-loop
-    μ-loop
-    returns
-    loop-holds
-    part-requires
-    add-begins
-    sub-left
-    loop-less
-    loop-again
-    same-length
-    returns-2)
+    tie.close (tie.spec Inv-loop μ-loop returns loop-holds part-requires add-begins (λ c. search needs) (λ c. search needs) loop-again same-length returns-2)

@@ -19,12 +19,6 @@ abbrev μ-loop : tie.MeasureT-loop
 loop-holds : tie.Need-loop-holds Inv-loop μ-loop
 loop-holds c = (c .pre, part-begins (c .args .part .now) (c .args .out .now) (c .args .at) (c .args .from) (c .args .place) (c .args .time))
 
-mul-out : tie.Need-mul-out Inv-loop μ-loop
-mul-out c = search needs
-
-shared-slice-read-out : tie.Need-shared-slice-read-out Inv-loop μ-loop
-shared-slice-read-out c = search needs
-
 sub-out : tie.Need-sub-out Inv-loop μ-loop
 sub-out c =
     let l = c .before .before in
@@ -34,9 +28,6 @@ add-out : tie.Need-add-out Inv-loop μ-loop
 add-out c =
     let l = c .before .before in
     record { fits = omega (arith, l .loop .inv .0 .times (l .loop .i) (search needs)) }
-
-mul-out-2 : tie.Need-mul-out-2 Inv-loop μ-loop
-mul-out-2 c = search needs
 
 -- there is room for a pair more
 room : (c : lts.After-shared-slice-known reads.Pre reads.Post Inv-loop μ-loop) → c .before .before .loop .word + 2 ≤ length (c .before .before .loop .out)
@@ -56,20 +47,11 @@ add-out-2 c =
 add-out-3 : tie.Need-add-out-3 Inv-loop μ-loop
 add-out-3 c = omega (arith, room c)
 
-mul-out-3 : tie.Need-mul-out-3 Inv-loop μ-loop
-mul-out-3 c = search needs
-
 slice-write-out-2 : tie.Need-slice-write-out-2 Inv-loop μ-loop
 slice-write-out-2 c = simp length-set (omega (arith, room c))
 
 add-word : tie.Need-add-word Inv-loop μ-loop
 add-word c = omega (arith, room c)
-
-add-i : tie.Need-add-i Inv-loop μ-loop
-add-i c = search needs
-
-loop-less : tie.Need-loop-less Inv-loop μ-loop
-loop-less c = search needs
 
 loop-again : tie.Need-loop-again Inv-loop μ-loop
 loop-again c =
@@ -88,23 +70,5 @@ returns c =
 pub part-spec : {M : Type 1} → statement M
 part-spec =
     tie.close
-    (tie.spec
-    Inv-loop
-    μ-loop
-    loop-holds
-    mul-out
-    shared-slice-read-out
-    sub-out
-    add-out
-    mul-out-2
-    slice-write-out
-    add-out-2
-    add-out-3
-    mul-out-3
-    slice-write-out-2
-    add-word
-    add-i
-    loop-less
-    loop-again
-    same-length
-    returns)
+    (tie.spec Inv-loop μ-loop loop-holds (λ c. search needs) (λ c. search needs) sub-out add-out (λ c. search needs) slice-write-out add-out-2 add-out-3 (λ c. search needs)
+    slice-write-out-2 add-word (λ c. search needs) (λ c. search needs) loop-again same-length returns)

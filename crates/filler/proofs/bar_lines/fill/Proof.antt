@@ -21,12 +21,6 @@ Inv-loop t words nums dens tempos out₀ seg₀ ahead₀ behind₀ k₀ out seg 
 abbrev μ-loop : tie.MeasureT-loop
 μ-loop t words nums dens tempos out₀ seg₀ ahead₀ behind₀ k₀ out seg ahead behind k = length out₀ - k
 
-mark-requires : tie.Need-mark-requires Inv-loop μ-loop
-mark-requires c κs = search needs
-
-open-requires : tie.Need-open-requires Inv-loop μ-loop
-open-requires c κs = search needs
-
 begin-requires : tie.Need-begin-requires Inv-loop μ-loop
 begin-requires c κs = c .before .before .before .before .before .before .before .before .before .pre .0
 
@@ -45,12 +39,6 @@ few c =
 cast-bar : tie.Need-cast-bar Inv-loop μ-loop
 cast-bar c = omega (arith, few c)
 
-mul-on-to : tie.Need-mul-on-to Inv-loop μ-loop
-mul-on-to c = search needs
-
-slice-read-on-to : tie.Need-slice-read-on-to Inv-loop μ-loop
-slice-read-on-to c = search needs
-
 on-to-requires : tie.Need-on-to-requires Inv-loop μ-loop
 on-to-requires c κs = let l = c .before .before .loop in (l .inv .segment, mark-here (l .inv) (c .before .loop-test .taken))
 
@@ -59,15 +47,6 @@ start-in-requires c κs =
     let s = c .before .before .before .before .before .before .before .before .before .before .before .before .before .before in
     let a = s .args in
     within (now (a .words)) (a .t .«beats_per_bar») (a .t .pickup) (c .before .before .before .loop .k) (c .on-to .result) (c .on-to .ensures)
-
-float-of-requires : tie.Need-float-of-requires Inv-loop μ-loop
-float-of-requires c κs = search needs
-
-place-of-requires : tie.Need-place-of-requires Inv-loop μ-loop
-place-of-requires c κs = search needs
-
-mul-resume : tie.Need-mul-resume Inv-loop μ-loop
-mul-resume c = search needs
 
 array-copy-out-resume : tie.Need-array-copy-out-resume Inv-loop μ-loop
 array-copy-out-resume c = omega (arith, c .place-of .ensures)
@@ -93,15 +72,6 @@ frame-at-requires c κs = (c .before .before .before .before .before .before .be
 mul-out : tie.Need-mul-out Inv-loop μ-loop
 mul-out c = omega (arith, few (c .before .before .before .before .before .before .before .before))
 
-slice-write-out : tie.Need-slice-write-out Inv-loop μ-loop
-slice-write-out c = search needs
-
-place-of-requires-2 : tie.Need-place-of-requires-2 Inv-loop μ-loop
-place-of-requires-2 c κs = search needs
-
-mul-behind : tie.Need-mul-behind Inv-loop μ-loop
-mul-behind c = search needs
-
 array-set-from-behind : tie.Need-array-set-from-behind Inv-loop μ-loop
 array-set-from-behind c = omega (arith, c .place-of2 .ensures)
 
@@ -125,9 +95,6 @@ loop-again c =
     (λ w. rw (w .2, w .3) (filled-behind inv (turn .loop-test .taken) has start beat (walked .0) (walked .1) frame (w .1 .result)))
     (c .if2 .came)
 
-same-length : tie.Need-same-length Inv-loop μ-loop
-same-length c = search needs
-
 returns : tie.Need-returns Inv-loop μ-loop
 returns c =
     let s = c .before .before .before .before .before .before .before .before .before .before .before .before in
@@ -138,32 +105,6 @@ returns c =
 pub fill-spec : {M : Type 1} → statement M
 fill-spec =
     tie.close
-    (tie.spec
-    Inv-loop
-    μ-loop
-    mark-requires
-    open-requires
-    begin-requires
-    loop-holds
-    cast-bar
-    mul-on-to
-    slice-read-on-to
-    on-to-requires
-    start-in-requires
-    float-of-requires
-    place-of-requires
-    mul-resume
-    array-copy-out-resume
-    resume-requires
-    walk-to-requires
-    frame-at-requires
-    mul-out
-    slice-write-out
-    place-of-requires-2
-    mul-behind
-    array-set-from-behind
-    add-k
-    loop-less
-    loop-again
-    same-length
-    returns)
+    (tie.spec Inv-loop μ-loop (λ c κs. search needs) (λ c κs. search needs) begin-requires loop-holds cast-bar (λ c. search needs) (λ c. search needs) on-to-requires
+    start-in-requires (λ c κs. search needs) (λ c κs. search needs) (λ c. search needs) array-copy-out-resume resume-requires walk-to-requires frame-at-requires mul-out
+    (λ c. search needs) (λ c κs. search needs) (λ c. search needs) array-set-from-behind add-k loop-less loop-again (λ c. search needs) returns)

@@ -18,38 +18,15 @@ abbrev μ-loop : tie.MeasureT-loop
 loop-holds : tie.Need-loop-holds Inv-loop μ-loop
 loop-holds c = blank-none (length (now (c .args .out))) (now (c .args .out)) refl
 
-mul-out : tie.Need-mul-out Inv-loop μ-loop
-mul-out c = search needs
-
-slice-write-out : tie.Need-slice-write-out Inv-loop μ-loop
-slice-write-out c = search needs
-
-add-k : tie.Need-add-k Inv-loop μ-loop
-add-k c = search needs
-
 loop-less : tie.Need-loop-less Inv-loop μ-loop
 loop-less c = omega (arith, c .before .loop .inv .long)
 
 loop-again : tie.Need-loop-again Inv-loop μ-loop
 loop-again c = blank-more (length (now (c .before .before .args .out))) (c .before .loop .k) (c .before .loop .out) (c .before .loop .inv) (c .loop-test .taken)
 
-same-length : tie.Need-same-length Inv-loop μ-loop
-same-length c = search needs
-
 returns : tie.Need-returns Inv-loop μ-loop
 returns c = blank-marked (length (now (c .before .before .args .out))) (c .before .loop .k) (c .before .loop .out) (c .before .loop .inv) (c .loop-test .left)
 
 pub clear-spec : {M : Type 1} → statement M
 clear-spec =
-    tie.close
-    (tie.spec
-    Inv-loop
-    μ-loop
-    loop-holds
-    mul-out
-    slice-write-out
-    add-k
-    loop-less
-    loop-again
-    same-length
-    returns)
+    tie.close (tie.spec Inv-loop μ-loop loop-holds (λ c. search needs) (λ c. search needs) (λ c. search needs) loop-less loop-again (λ c. search needs) returns)

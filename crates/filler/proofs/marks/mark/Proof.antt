@@ -18,38 +18,14 @@ Inv-loop words out₀ number₀ i₀ out number i = Marking words (length out₀
 abbrev μ-loop : tie.MeasureT-loop
 μ-loop words out₀ number₀ i₀ out number i = length words - i
 
-clear-requires : tie.Need-clear-requires Inv-loop μ-loop
-clear-requires c κs = search needs
-
 loop-holds : tie.Need-loop-holds Inv-loop μ-loop
 loop-holds c = marking-none (now (c .before .before .before .before .before .before .args .words)) (length (now (c .before .before .before .before .before .before .args .out))) _ (c .before .before .clear .ensures)
 
 add-loop : tie.Need-add-loop Inv-loop μ-loop
 add-loop c = omega (arith, c .loop .inv .inside)
 
-mul-bar : tie.Need-mul-bar Inv-loop μ-loop
-mul-bar c = search needs
-
-shared-slice-read-bar : tie.Need-shared-slice-read-bar Inv-loop μ-loop
-shared-slice-read-bar c = search needs
-
 cast-bar : tie.Need-cast-bar Inv-loop μ-loop
 cast-bar c = omega (arith, c .shared-slice-known2 .given (c .before .before .loop .i))
-
-add-number : tie.Need-add-number Inv-loop μ-loop
-add-number c = search needs
-
-mul-out : tie.Need-mul-out Inv-loop μ-loop
-mul-out c = search needs
-
-slice-write-out : tie.Need-slice-write-out Inv-loop μ-loop
-slice-write-out c = search needs
-
-add-i : tie.Need-add-i Inv-loop μ-loop
-add-i c = search needs
-
-loop-less : tie.Need-loop-less Inv-loop μ-loop
-loop-less c = search needs
 
 loop-again : tie.Need-loop-again Inv-loop μ-loop
 loop-again c =
@@ -62,9 +38,6 @@ loop-again c =
     (λ w. subst (Marking (now (a .words)) n (l .number + 1) _) (sym (w .1)) (marking-beyond (now (a .words)) n (l .number) (l .i) (l .out) (l .inv) h (omega (arith, w .0 .left, l .inv .long))))
     (c .if1 .came)
 
-same-length : tie.Need-same-length Inv-loop μ-loop
-same-length c = search needs
-
 returns : tie.Need-returns Inv-loop μ-loop
 returns c =
     let a = c .before .before .before .before .before .before .before .before .args in
@@ -75,20 +48,5 @@ returns c =
 pub mark-spec : {M : Type 1} → statement M
 mark-spec =
     tie.close
-    (tie.spec
-    Inv-loop
-    μ-loop
-    clear-requires
-    loop-holds
-    add-loop
-    mul-bar
-    shared-slice-read-bar
-    cast-bar
-    add-number
-    mul-out
-    slice-write-out
-    add-i
-    loop-less
-    loop-again
-    same-length
-    returns)
+    (tie.spec Inv-loop μ-loop (λ c κs. search needs) loop-holds add-loop (λ c. search needs) (λ c. search needs) cast-bar (λ c. search needs) (λ c. search needs)
+    (λ c. search needs) (λ c. search needs) (λ c. search needs) loop-again (λ c. search needs) returns)

@@ -6,18 +6,6 @@ use Rattle.filler.proofs.Standing.{end-first, end-later}
 use Rattle.filler.proofs.segments.end_of.Statement.{statement}
 use Rattle.filler.proofs.segments.end_of.Tie as tie
 
-add-requires : tie.Need-add-requires
-add-requires c κs = search needs
-
-or-most-requires : tie.Need-or-most-requires
-or-most-requires c κs = search needs
-
-sub-after-bars : tie.Need-sub-after-bars
-sub-after-bars c = search needs
-
-after-bars-requires : tie.Need-after-bars-requires
-after-bars-requires c κs = search needs
-
 returns : tie.Need-returns
 returns c =
     let s = c .before .before .before .before .before .before in
@@ -29,4 +17,5 @@ returns-2 c =
     c .after-bars .ensures ∙ end-later (s .args .segment) (s .args .bar) (c .before .before .if1 .left)
 
 pub end-of-spec : {M : Type 1} → statement M
-end-of-spec = tie.close (tie.spec add-requires or-most-requires sub-after-bars after-bars-requires returns returns-2)
+end-of-spec =
+    tie.close (tie.spec (λ c κs. search needs) (λ c κs. search needs) (λ c. search needs) (λ c κs. search needs) returns returns-2)

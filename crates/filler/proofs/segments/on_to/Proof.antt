@@ -12,9 +12,6 @@ use Rattle.filler.proofs.segments.on_to.Tie as tie
 number-is : (c : tie.Joined1) → let a = c .before .before .before .args in c .if1 .number ≡ max (a .segment .number) (a .mark)
 number-is c = ⊎-elim (λ w. omega arith) (λ w. omega arith) (c .if1 .came)
 
-begins-requires : tie.Need-begins-requires
-begins-requires c κs = search needs
-
 end-of-requires : tie.Need-end-of-requires
 end-of-requires c κs =
     let s = c .before .before .before .before .before in
@@ -42,4 +39,5 @@ returns-2 c =
     _ (number-is (c .before .before .before .before)) (sym (c .before .before .before .begins .ensures) ∙ c .before .before .if2 .left)
 
 pub on-to-spec : {M : Type 1} → statement M
-on-to-spec = tie.close (tie.spec begins-requires end-of-requires length-of-requires returns returns-2)
+on-to-spec =
+    tie.close (tie.spec (λ c κs. search needs) end-of-requires length-of-requires returns returns-2)

@@ -5,12 +5,6 @@ use Rattle.filler.proofs.Standing.{start-own, start-later}
 use Rattle.filler.proofs.segments.start_in.Statement.{statement}
 use Rattle.filler.proofs.segments.start_in.Tie as tie
 
-sub-after-bars : tie.Need-sub-after-bars
-sub-after-bars c = search needs
-
-after-bars-requires : tie.Need-after-bars-requires
-after-bars-requires c κs = search needs
-
 returns : tie.Need-returns
 returns c =
     let s = c .before .before .before .before in
@@ -22,4 +16,5 @@ returns-2 c =
     c .after-bars .ensures ∙ start-later (s .args .segment) (s .args .bar) (c .before .before .if1 .left)
 
 pub start-in-spec : {M : Type 1} → statement M
-start-in-spec = tie.close (tie.spec sub-after-bars after-bars-requires returns returns-2)
+start-in-spec =
+    tie.close (tie.spec (λ c. search needs) (λ c κs. search needs) returns returns-2)

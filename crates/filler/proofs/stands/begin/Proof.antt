@@ -7,12 +7,6 @@ use Rattle.filler.proofs.Serving.{serves-begin}
 use Rattle.filler.proofs.stands.begin.Statement.{statement}
 use Rattle.filler.proofs.stands.begin.Tie as tie
 
-shared-slice-read-tempo-of : tie.Need-shared-slice-read-tempo-of
-shared-slice-read-tempo-of c = search needs
-
-tempo-of-requires : tie.Need-tempo-of-requires
-tempo-of-requires c κs = search needs
-
 returns : tie.Need-returns
 unfolding ofBits
 returns c =
@@ -26,4 +20,5 @@ returns-2 c =
     serves-begin (now (s .args .nums)) (now (s .args .dens)) (now (s .args .tempos)) (s .pre) _ (λ h. c .tempo-of .ensures)
 
 pub begin-spec : {M : Type 1} → statement M
-begin-spec = tie.close (tie.spec shared-slice-read-tempo-of tempo-of-requires returns returns-2)
+begin-spec =
+    tie.close (tie.spec (λ c. search needs) (λ c κs. search needs) returns returns-2)

@@ -10,18 +10,6 @@ use Rattle.timeline.proofs.Laws.{map-seconds}
 use Rattle.filler.proofs.stands.frame_at.Statement.{statement}
 use Rattle.filler.proofs.stands.frame_at.Tie as tie
 
-frame-at-beat-requires : tie.Need-frame-at-beat-requires
-frame-at-beat-requires c κs = search needs
-
-returns : tie.Need-returns
-returns c = search needs
-
-later-requires : tie.Need-later-requires
-later-requires c κs = search needs
-
-frames-at-requires : tie.Need-frames-at-requires
-frames-at-requires c κs = search needs
-
 returns-2 : tie.Need-returns-2
 unfolding frameAtBeat
 returns-2 c =
@@ -34,4 +22,4 @@ returns-2 c =
 
 pub frame-at-spec : {M : Type 1} → statement M
 frame-at-spec =
-    tie.close (tie.spec frame-at-beat-requires returns later-requires frames-at-requires returns-2)
+    tie.close (tie.spec (λ c κs. search needs) (λ c. search needs) (λ c κs. search needs) (λ c κs. search needs) returns-2)

@@ -23,21 +23,6 @@ loop-holds c =
     let s = c .before .before in
     serves-own (now (s .args .nums)) (now (s .args .dens)) (now (s .args .tempos)) (s .pre .0) (s .args .beat) (s .args .stand) (s .pre .1)
 
-mul-t11 : tie.Need-mul-t11 Inv-loop μ-loop
-mul-t11 c = search needs
-
-shared-slice-copy-out-t14 : tie.Need-shared-slice-copy-out-t14 Inv-loop μ-loop
-shared-slice-copy-out-t14 c = search needs
-
-mul-tempo-of : tie.Need-mul-tempo-of Inv-loop μ-loop
-mul-tempo-of c = search needs
-
-shared-slice-read-tempo-of : tie.Need-shared-slice-read-tempo-of Inv-loop μ-loop
-shared-slice-read-tempo-of c = search needs
-
-float-of-requires : tie.Need-float-of-requires Inv-loop μ-loop
-float-of-requires c κs = search needs
-
 returns : tie.Need-returns Inv-loop μ-loop
 returns c =
     let f = c .before in
@@ -48,24 +33,6 @@ returns c =
       stopped-here (now (s .args .nums)) (now (s .args .dens)) (now (s .args .tempos)) (s .pre .0) (s .args .beat) (l .secs) (l .from) (l .tempo) (l .i) (l .inv)
           (r .before .loop-test .taken) _ (toZ-ofZ w64 (getD (now (s .args .nums)) (l .i) (pos 0)) (record { sfits = r .t14 .given })) _ (f .float-of .ensures) (c .if1 .taken),
     )
-
-later-requires : tie.Need-later-requires Inv-loop μ-loop
-later-requires c κs = search needs
-
-mul-tempo-of-2 : tie.Need-mul-tempo-of-2 Inv-loop μ-loop
-mul-tempo-of-2 c = search needs
-
-shared-slice-read-tempo-of-2 : tie.Need-shared-slice-read-tempo-of-2 Inv-loop μ-loop
-shared-slice-read-tempo-of-2 c = search needs
-
-tempo-of-requires : tie.Need-tempo-of-requires Inv-loop μ-loop
-tempo-of-requires c κs = search needs
-
-add-i : tie.Need-add-i Inv-loop μ-loop
-add-i c = search needs
-
-loop-less : tie.Need-loop-less Inv-loop μ-loop
-loop-less c = search needs
 
 loop-again : tie.Need-loop-again Inv-loop μ-loop
 loop-again c =
@@ -87,21 +54,5 @@ returns-2 c =
 pub walk-to-spec : {M : Type 1} → statement M
 walk-to-spec =
     tie.close
-    (tie.spec
-    Inv-loop
-    μ-loop
-    loop-holds
-    mul-t11
-    shared-slice-copy-out-t14
-    mul-tempo-of
-    shared-slice-read-tempo-of
-    float-of-requires
-    returns
-    later-requires
-    mul-tempo-of-2
-    shared-slice-read-tempo-of-2
-    tempo-of-requires
-    add-i
-    loop-less
-    loop-again
-    returns-2)
+    (tie.spec Inv-loop μ-loop loop-holds (λ c. search needs) (λ c. search needs) (λ c. search needs) (λ c. search needs) (λ c κs. search needs) returns (λ c κs. search needs)
+    (λ c. search needs) (λ c. search needs) (λ c κs. search needs) (λ c. search needs) (λ c. search needs) loop-again returns-2)

@@ -6,22 +6,13 @@ use Rattle.fits.proofs.Parts.{unsound-map, backward, by-walk}
 use Rattle.fits.proofs.deciding.decide.Statement.{statement}
 use Rattle.fits.proofs.deciding.decide.Tie as tie
 
-map-requires : tie.Need-map-requires
-map-requires c κs = search needs
-
 returns : tie.Need-returns
 returns c = unsound-map _ _ _ (sym (c .before .map .ensures) ∙ not-true _ (c .if1 .taken))
-
-forward-requires : tie.Need-forward-requires
-forward-requires c κs = search needs
 
 returns-2 : tie.Need-returns-2
 returns-2 c =
     let m = c .before .before in
     backward _ _ _ (sym (m .before .map .ensures) ∙ not-false _ (m .if1 .left)) (sym (c .before .forward .ensures) ∙ not-true _ (c .if2 .taken))
-
-passes-requires : tie.Need-passes-requires
-passes-requires c κs = search needs
 
 returns-3 : tie.Need-returns-3
 returns-3 c =
@@ -31,4 +22,4 @@ returns-3 c =
 
 pub decide-spec : {M : Type 1} → statement M
 decide-spec =
-    tie.close (tie.spec map-requires returns forward-requires returns-2 passes-requires returns-3)
+    tie.close (tie.spec (λ c κs. search needs) returns (λ c κs. search needs) returns-2 (λ c κs. search needs) returns-3)

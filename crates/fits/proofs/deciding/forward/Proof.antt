@@ -8,18 +8,6 @@ use Rattle.fits.proofs.Parts.{forward-present}
 use Rattle.fits.proofs.deciding.forward.Statement.{statement}
 use Rattle.fits.proofs.deciding.forward.Tie as tie
 
-enum-told : tie.Need-enum-told
-enum-told c = search needs
-
-enum-known-pickup : tie.Need-enum-known-pickup
-enum-known-pickup c = search needs
-
-negative-requires : tie.Need-negative-requires
-negative-requires c κs = search needs
-
-returns : tie.Need-returns
-returns c = search needs
-
 returns-2 : tie.Need-returns-2
 returns-2 c =
     let p = c .before .before .before in
@@ -28,4 +16,5 @@ returns-2 c =
     (c .negative .ensures ∙ ap isNeg (toZ-ofZ w64 num (record { sfits = c .before .struct-told .given .0 .1 })))
 
 pub forward-spec : {M : Type 1} → statement M
-forward-spec = tie.close (tie.spec enum-told enum-known-pickup negative-requires returns returns-2)
+forward-spec =
+    tie.close (tie.spec (λ c. search needs) (λ c. search needs) (λ c κs. search needs) (λ c. search needs) returns-2)

@@ -7,11 +7,9 @@ use Rattle.fits.proofs.sound.first_zero.Tie as tie
 returns : tie.Need-returns
 returns c = first-none _ (c .if1 .taken)
 
-shared-slice-read-result : tie.Need-shared-slice-read-result
-shared-slice-read-result c = search needs
-
 returns-2 : tie.Need-returns-2
 returns-2 c = first-point _ (c .before .if1 .left)
 
 pub first-zero-spec : {M : Type 1} → statement M
-first-zero-spec = tie.close (tie.spec returns shared-slice-read-result returns-2)
+first-zero-spec =
+    tie.close (tie.spec returns (λ c. search needs) returns-2)

@@ -9,14 +9,8 @@ use Rattle.fits.proofs.sound.map.Tie as tie
 returns : tie.Need-returns
 returns c = map-many _ (c .if1 .taken)
 
-first-zero-requires : tie.Need-first-zero-requires
-first-zero-requires c κs = search needs
-
 returns-2 : tie.Need-returns-2
 returns-2 c = map-late _ (c .before .before .if1 .left) (sym (c .before .first-zero .ensures) ∙ not-true _ (c .if2 .taken))
-
-points-requires : tie.Need-points-requires
-points-requires c κs = search needs
 
 returns-3 : tie.Need-returns-3
 returns-3 c =
@@ -24,4 +18,5 @@ returns-3 c =
     map-rest _ (f .before .if1 .left) _ (sym (f .first-zero .ensures) ∙ not-false _ (c .before .if2 .left)) (c .points .ensures)
 
 pub map-spec : {M : Type 1} → statement M
-map-spec = tie.close (tie.spec returns first-zero-requires returns-2 points-requires returns-3)
+map-spec =
+    tie.close (tie.spec returns (λ c κs. search needs) returns-2 (λ c κs. search needs) returns-3)

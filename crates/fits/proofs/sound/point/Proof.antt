@@ -4,9 +4,6 @@ use Rattle.fits.proofs.Sounding.{point-good, point-none, point-early}
 use Rattle.fits.proofs.sound.point.Statement.{statement}
 use Rattle.fits.proofs.sound.point.Tie as tie
 
-good-denominator-requires : tie.Need-good-denominator-requires
-good-denominator-requires c κs = search needs
-
 returns : tie.Need-returns
 returns c =
     let s = c .before .before .before in
@@ -23,4 +20,5 @@ returns-3 c =
     point-early (s .args .low) (s .args .bar) (s .args .numerator) (s .args .denominator) (c .if1 .left)
 
 pub point-spec : {M : Type 1} → statement M
-point-spec = tie.close (tie.spec good-denominator-requires returns returns-2 returns-3)
+point-spec =
+    tie.close (tie.spec (λ c κs. search needs) returns returns-2 returns-3)

@@ -21,36 +21,6 @@ abbrev μ-loop : tie.MeasureT-loop
 loop-holds : tie.Need-loop-holds Inv-loop μ-loop
 loop-holds c = (omega arith, refl)
 
-add-loop : tie.Need-add-loop Inv-loop μ-loop
-add-loop c = search needs
-
-mul-bar : tie.Need-mul-bar Inv-loop μ-loop
-mul-bar c = search needs
-
-shared-slice-read-bar : tie.Need-shared-slice-read-bar Inv-loop μ-loop
-shared-slice-read-bar c = search needs
-
-add-point : tie.Need-add-point Inv-loop μ-loop
-add-point c = search needs
-
-mul-point : tie.Need-mul-point Inv-loop μ-loop
-mul-point c = search needs
-
-shared-slice-read-point : tie.Need-shared-slice-read-point Inv-loop μ-loop
-shared-slice-read-point c = search needs
-
-add-point-2 : tie.Need-add-point-2 Inv-loop μ-loop
-add-point-2 c = search needs
-
-mul-point-2 : tie.Need-mul-point-2 Inv-loop μ-loop
-mul-point-2 c = search needs
-
-shared-slice-read-point-2 : tie.Need-shared-slice-read-point-2 Inv-loop μ-loop
-shared-slice-read-point-2 c = search needs
-
-point-requires : tie.Need-point-requires Inv-loop μ-loop
-point-requires c κs = search needs
-
 returns : tie.Need-returns Inv-loop μ-loop
 returns c =
     let p = c .before in
@@ -62,12 +32,6 @@ cast-low c = let w = c .before .before .before .before in omega (arith, w .share
 
 add-low : tie.Need-add-low Inv-loop μ-loop
 add-low c = let w = c .before .before .before .before in omega (arith, w .shared-slice-known2 .given (w .before .before .loop .i))
-
-add-i : tie.Need-add-i Inv-loop μ-loop
-add-i c = search needs
-
-loop-less : tie.Need-loop-less Inv-loop μ-loop
-loop-less c = search needs
 
 loop-again : tie.Need-loop-again Inv-loop μ-loop
 loop-again c =
@@ -85,24 +49,5 @@ returns-2 c =
 pub points-spec : {M : Type 1} → statement M
 points-spec =
     tie.close
-    (tie.spec
-    Inv-loop
-    μ-loop
-    loop-holds
-    add-loop
-    mul-bar
-    shared-slice-read-bar
-    add-point
-    mul-point
-    shared-slice-read-point
-    add-point-2
-    mul-point-2
-    shared-slice-read-point-2
-    point-requires
-    returns
-    cast-low
-    add-low
-    add-i
-    loop-less
-    loop-again
-    returns-2)
+    (tie.spec Inv-loop μ-loop loop-holds (λ c. search needs) (λ c. search needs) (λ c. search needs) (λ c. search needs) (λ c. search needs) (λ c. search needs) (λ c. search needs)
+    (λ c. search needs) (λ c. search needs) (λ c κs. search needs) returns cast-low add-low (λ c. search needs) (λ c. search needs) loop-again returns-2)

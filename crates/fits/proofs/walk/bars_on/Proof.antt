@@ -10,24 +10,6 @@ use Rattle.fits.proofs.Walking.{bars-done, bars-refused}
 use Rattle.fits.proofs.walk.bars_on.Statement.{statement}
 use Rattle.fits.proofs.walk.bars_on.Tie as tie
 
-cast-mul : tie.Need-cast-mul
-cast-mul c = search needs
-
-mul-requires : tie.Need-mul-requires
-mul-requires c κs = search needs
-
-enum-known-span : tie.Need-enum-known-span
-enum-known-span c = search needs
-
-add-requires : tie.Need-add-requires
-add-requires c κs = search needs
-
-enum-told : tie.Need-enum-told
-enum-told c = search needs
-
-enum-told-2 : tie.Need-enum-told-2
-enum-told-2 c = search needs
-
 returns : tie.Need-returns
 returns c =
     let m = c .before .before .before .before in
@@ -51,14 +33,4 @@ returns-3 c =
 
 pub bars-on-spec : {M : Type 1} → statement M
 bars-on-spec =
-    tie.close
-    (tie.spec
-    cast-mul
-    mul-requires
-    enum-known-span
-    add-requires
-    enum-told
-    enum-told-2
-    returns
-    returns-2
-    returns-3)
+    tie.close (tie.spec (λ c. search needs) (λ c κs. search needs) (λ c. search needs) (λ c κs. search needs) (λ c. search needs) (λ c. search needs) returns returns-2 returns-3)

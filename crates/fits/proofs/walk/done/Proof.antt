@@ -7,15 +7,6 @@ use Rattle.beats.specs.Readings.{readBeat}
 use Rattle.fits.proofs.walk.done.Statement.{statement}
 use Rattle.fits.proofs.walk.done.Tie as tie
 
-enum-told : tie.Need-enum-told
-enum-told c = search needs
-
-enum-told-2 : tie.Need-enum-told-2
-enum-told-2 c = search needs
-
-enum-told-3 : tie.Need-enum-told-3
-enum-told-3 c = search needs
-
 returns : tie.Need-returns
 returns c = ap (λ (a : BeatAnswer). isAccepted (readBeat a)) (sym (c .enum-told .given .1))
 
@@ -27,4 +18,4 @@ returns-3 c = ap (λ (a : BeatAnswer). isAccepted (readBeat a)) (sym (c .enum-to
 
 pub done-spec : {M : Type 1} → statement M
 done-spec =
-    tie.close (tie.spec enum-told enum-told-2 enum-told-3 returns returns-2 returns-3)
+    tie.close (tie.spec (λ c. search needs) (λ c. search needs) (λ c. search needs) returns returns-2 returns-3)

@@ -8,21 +8,6 @@ use Rattle.fits.specs.Decision.{walked, walkFits}
 use Rattle.fits.proofs.walk.passes.Statement.{statement}
 use Rattle.fits.proofs.walk.passes.Tie as tie
 
-zero-requires : tie.Need-zero-requires
-zero-requires c κs = search needs
-
-length-requires : tie.Need-length-requires
-length-requires c κs = search needs
-
-add-requires : tie.Need-add-requires
-add-requires c κs = search needs
-
-last-start-requires : tie.Need-last-start-requires
-last-start-requires c κs = search needs
-
-done-requires : tie.Need-done-requires
-done-requires c κs = search needs
-
 returns : tie.Need-returns
 unfolding walkFits
 returns c =
@@ -35,5 +20,4 @@ returns c =
 
 pub passes-spec : {M : Type 1} → statement M
 passes-spec =
-    tie.close
-    (tie.spec zero-requires length-requires add-requires last-start-requires done-requires returns)
+    tie.close (tie.spec (λ c κs. search needs) (λ c κs. search needs) (λ c κs. search needs) (λ c κs. search needs) (λ c κs. search needs) returns)

@@ -9,18 +9,6 @@ use Rattle.fits.proofs.Walking.{segment-on, segment-off}
 use Rattle.fits.proofs.walk.segment_end.Statement.{statement}
 use Rattle.fits.proofs.walk.segment_end.Tie as tie
 
-sub-bars-on : tie.Need-sub-bars-on
-sub-bars-on c = search needs
-
-bars-on-requires : tie.Need-bars-on-requires
-bars-on-requires c κs = search needs
-
-done-requires : tie.Need-done-requires
-done-requires c κs = search needs
-
-bars-on-requires-2 : tie.Need-bars-on-requires-2
-bars-on-requires-2 c κs = search needs
-
 returns : tie.Need-returns
 returns c =
     let d = c .before .before in
@@ -38,4 +26,4 @@ returns-2 c =
 
 pub segment-end-spec : {M : Type 1} → statement M
 segment-end-spec =
-    tie.close (tie.spec sub-bars-on bars-on-requires done-requires bars-on-requires-2 returns returns-2)
+    tie.close (tie.spec (λ c. search needs) (λ c κs. search needs) (λ c κs. search needs) (λ c κs. search needs) returns returns-2)

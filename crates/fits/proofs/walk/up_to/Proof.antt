@@ -8,15 +8,6 @@ use Rattle.fits.proofs.Walking.{reach-bars, reach-none}
 use Rattle.fits.proofs.walk.up_to.Statement.{statement}
 use Rattle.fits.proofs.walk.up_to.Tie as tie
 
-len-requires : tie.Need-len-requires
-len-requires c κs = search needs
-
-sub-segment-end : tie.Need-sub-segment-end
-sub-segment-end c = search needs
-
-segment-end-requires : tie.Need-segment-end-requires
-segment-end-requires c κs = search needs
-
 returns : tie.Need-returns
 returns c =
     let s = c .before .before .before in
@@ -29,4 +20,4 @@ returns-2 c = sym (reach-none _ _ _ _ (c .if1 .left))
 
 pub up-to-spec : {M : Type 1} → statement M
 up-to-spec =
-    tie.close (tie.spec len-requires sub-segment-end segment-end-requires returns returns-2)
+    tie.close (tie.spec (λ c κs. search needs) (λ c. search needs) (λ c κs. search needs) returns returns-2)

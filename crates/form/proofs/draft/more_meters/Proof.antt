@@ -5,12 +5,10 @@ use Rattle.form.specs.Drafts.{moreMeters}
 use Rattle.form.proofs.draft.more_meters.Statement.{statement}
 use Rattle.form.proofs.draft.more_meters.Tie as tie
 
-add-t6 : tie.Need-add-t6
-add-t6 c = search needs
-
 returns : tie.Need-returns
 unfolding moreMeters
 returns c = refl
 
 pub more-meters-spec : {M : Type 1} → statement M
-more-meters-spec = tie.close (tie.spec add-t6 returns)
+more-meters-spec =
+    tie.close (tie.spec (λ c. search needs) returns)

@@ -5,21 +5,6 @@ use Rattle.form.proofs.Ends.{end-wrong, end-whole}
 use Rattle.form.proofs.finish.file.Statement.{statement}
 use Rattle.form.proofs.finish.file.Tie as tie
 
-last-line-requires : tie.Need-last-line-requires
-last-line-requires c κs = search needs
-
-score-of-requires : tie.Need-score-of-requires
-score-of-requires c κs = search needs
-
-enum-known-reason : tie.Need-enum-known-reason
-enum-known-reason c = search needs
-
-enum-known-score : tie.Need-enum-known-score
-enum-known-score c = search needs
-
-written-requires : tie.Need-written-requires
-written-requires c κs = search needs
-
 returns : tie.Need-returns
 returns c =
     let call = c .before .before .before in
@@ -33,12 +18,4 @@ returns-2 c =
 
 pub file-spec : {M : Type 1} → statement M
 file-spec =
-    tie.close
-    (tie.spec
-    last-line-requires
-    score-of-requires
-    enum-known-reason
-    enum-known-score
-    written-requires
-    returns
-    returns-2)
+    tie.close (tie.spec (λ c κs. search needs) (λ c κs. search needs) (λ c. search needs) (λ c. search needs) (λ c κs. search needs) returns returns-2)

@@ -4,29 +4,11 @@ use Rattle.form.proofs.Ends.{no-rate, no-beats, no-tempo, all-said}
 use Rattle.form.proofs.finish.score_of.Statement.{statement}
 use Rattle.form.proofs.finish.score_of.Tie as tie
 
-enum-known-rate : tie.Need-enum-known-rate
-enum-known-rate c = search needs
-
-enum-told : tie.Need-enum-told
-enum-told c = search needs
-
 returns : tie.Need-returns
 returns c = no-rate _ (c .enum-told .given .1)
 
-enum-known-beats : tie.Need-enum-known-beats
-enum-known-beats c = search needs
-
-enum-told-2 : tie.Need-enum-told-2
-enum-told-2 c = search needs
-
 returns-2 : tie.Need-returns-2
 returns-2 c = no-beats _ _ (c.before.before.before .rate .given .1) (c .enum-told2 .given .1)
-
-enum-known-tempo : tie.Need-enum-known-tempo
-enum-known-tempo c = search needs
-
-enum-told-3 : tie.Need-enum-told-3
-enum-told-3 c = search needs
 
 returns-3 : tie.Need-returns-3
 returns-3 c = no-tempo _ _ (c.before.before.before.before.before.before .rate .given .1) _ (c.before.before.before .beats .given .1) (c .enum-told3 .given .1)
@@ -37,14 +19,4 @@ returns-4 c = all-said _ _ (c.before.before.before.before.before.before.before .
 pub score-of-spec : {M : Type 1} → statement M
 score-of-spec =
     tie.close
-    (tie.spec
-    enum-known-rate
-    enum-told
-    returns
-    enum-known-beats
-    enum-told-2
-    returns-2
-    enum-known-tempo
-    enum-told-3
-    returns-3
-    returns-4)
+    (tie.spec (λ c. search needs) (λ c. search needs) returns (λ c. search needs) (λ c. search needs) returns-2 (λ c. search needs) (λ c. search needs) returns-3 returns-4)

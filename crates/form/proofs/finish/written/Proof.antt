@@ -6,18 +6,6 @@ use Rattle.form.specs.Forms.{writtenBy}
 use Rattle.form.proofs.finish.written.Statement.{statement}
 use Rattle.form.proofs.finish.written.Tie as tie
 
-write-score-requires : tie.Need-write-score-requires
-write-score-requires c κs = search needs
-
-enum-known-size : tie.Need-enum-known-size
-enum-known-size c = search needs
-
-enum-told : tie.Need-enum-told
-enum-told c = search needs
-
-enum-told-2 : tie.Need-enum-told-2
-enum-told-2 c = search needs
-
 returns : tie.Need-returns
 unfolding writtenBy
 returns c = let w = c.before.before.before .write-score in (ap (writtenBy _) (sym (ap readWrite (c.before .size .given .1)) ∙ w .ensures .answer-is), w .ensures .bytes-are)
@@ -32,12 +20,4 @@ returns-3 c = let w = c.before.before .write-score in (ap (writtenBy _) (sym (ap
 
 pub written-spec : {M : Type 1} → statement M
 written-spec =
-    tie.close
-    (tie.spec
-    write-score-requires
-    enum-known-size
-    enum-told
-    enum-told-2
-    returns
-    returns-2
-    returns-3)
+    tie.close (tie.spec (λ c κs. search needs) (λ c. search needs) (λ c. search needs) (λ c. search needs) returns returns-2 returns-3)

@@ -17,32 +17,8 @@ Inv-loop text meter₀ nums₀ dens₀ bpms₀ draft₀ line₀ place₀ meter n
 abbrev μ-loop : tie.MeasureT-loop
 μ-loop text meter₀ nums₀ dens₀ bpms₀ draft₀ line₀ place₀ meter nums dens bpms draft line place = length text - place
 
-empty-requires : tie.Need-empty-requires Inv-loop μ-loop
-empty-requires c κs = search needs
-
 loop-holds : tie.Need-loop-holds Inv-loop μ-loop
 loop-holds c = (omega arith, begun _ _ _ _ _ _ (c .empty .ensures))
-
-add-line : tie.Need-add-line Inv-loop μ-loop
-add-line c = omega arith
-
-until-requires : tie.Need-until-requires Inv-loop μ-loop
-until-requires c κs = omega arith
-
-sub-step : tie.Need-sub-step Inv-loop μ-loop
-sub-step c = omega arith
-
-part-step-start : tie.Need-part-step-start Inv-loop μ-loop
-part-step-start c = omega arith
-
-part-step-end : tie.Need-part-step-end Inv-loop μ-loop
-part-step-end c = omega arith
-
-step-requires : tie.Need-step-requires Inv-loop μ-loop
-step-requires c κs = search needs
-
-enum-known-reason : tie.Need-enum-known-reason Inv-loop μ-loop
-enum-known-reason c = search needs
 
 returns : tie.Need-returns Inv-loop μ-loop
 unfolding readWalk
@@ -51,15 +27,6 @@ returns c =
     let end = step .before .before .before .before .before .before in
     let turn = end .before .before in
     turn-wrong _ _ _ _ (turn .loop .inv .1) _ (end .before .loop-test .taken) (end .until .ensures .0) _ _ _ _ (step .step .ensures) (c .before .reason .given .1)
-
-enum-known-next : tie.Need-enum-known-next Inv-loop μ-loop
-enum-known-next c = search needs
-
-add-place : tie.Need-add-place Inv-loop μ-loop
-add-place c = omega arith
-
-loop-less : tie.Need-loop-less Inv-loop μ-loop
-loop-less c = omega arith
 
 loop-again : tie.Need-loop-again Inv-loop μ-loop
 loop-again c =
@@ -76,21 +43,5 @@ returns-2 c = turn-done (c .before .before .before .before .args .text .now) (c 
 pub lines-spec : {M : Type 1} → statement M
 lines-spec =
     tie.close
-    (tie.spec
-    Inv-loop
-    μ-loop
-    empty-requires
-    loop-holds
-    add-line
-    until-requires
-    sub-step
-    part-step-start
-    part-step-end
-    step-requires
-    enum-known-reason
-    returns
-    enum-known-next
-    add-place
-    loop-less
-    loop-again
-    returns-2)
+    (tie.spec Inv-loop μ-loop (λ c κs. search needs) loop-holds (λ c. omega arith) (λ c κs. omega arith) (λ c. omega arith) (λ c. omega arith) (λ c. omega arith)
+    (λ c κs. search needs) (λ c. search needs) returns (λ c. search needs) (λ c. omega arith) (λ c. omega arith) loop-again returns-2)

@@ -12,14 +12,9 @@ returns c =
     let full : 256 ≤ draft .meters = omega arith in
     (meters-full draft full, λ h. let z : ⊥ = omega arith in absurd z)
 
-meter-requires : tie.Need-meter-requires
-meter-requires c κs = search needs
-
-more-meters-requires : tie.Need-more-meters-requires
-more-meters-requires c κs = search needs
-
 returns-2 : tie.Need-returns-2
 returns-2 c = (meters-more (c .before .before .before .before .before .args .draft) (omega arith) (c .more-meters .ensures), λ h. c .before .meter .ensures)
 
 pub meter-step-spec : {M : Type 1} → statement M
-meter-step-spec = tie.close (tie.spec returns meter-requires more-meters-requires returns-2)
+meter-step-spec =
+    tie.close (tie.spec returns (λ c κs. search needs) (λ c κs. search needs) returns-2)

@@ -12,14 +12,9 @@ returns c =
     let full : 1024 ≤ draft .tempos = omega arith in
     (tempos-full draft full, λ h. let z : ⊥ = omega arith in absurd z)
 
-tempo-requires : tie.Need-tempo-requires
-tempo-requires c κs = search needs
-
-more-tempos-requires : tie.Need-more-tempos-requires
-more-tempos-requires c κs = search needs
-
 returns-2 : tie.Need-returns-2
 returns-2 c = (tempos-more (c .before .before .before .before .before .before .before .args .draft) (omega arith) (c .more-tempos .ensures), λ h. c .before .tempo .ensures)
 
 pub tempo-step-spec : {M : Type 1} → statement M
-tempo-step-spec = tie.close (tie.spec returns tempo-requires more-tempos-requires returns-2)
+tempo-step-spec =
+    tie.close (tie.spec returns (λ c κs. search needs) (λ c κs. search needs) returns-2)

@@ -5,17 +5,11 @@ use Rattle.form_text.proofs.Rows.{form-put}
 use Rattle.form_text.proofs.lines.form.Statement.{statement}
 use Rattle.form_text.proofs.lines.form.Tie as tie
 
-head-requires : tie.Need-head-requires
-head-requires c κs = omega arith
-
 meter-lines-requires : tie.Need-meter-lines-requires
 meter-lines-requires c κs = let s = c .before .before .before .before .before .before .before .before .before in (omega arith, s .pre .3)
 
 tempo-lines-requires : tie.Need-tempo-lines-requires
 tempo-lines-requires c κs = let s = c .before .before .before .before .before .before .before .before .before .before .before .before .before in (omega arith, s .pre .4, s .pre .5, s .pre .6)
-
-same-length : tie.Need-same-length
-same-length c = search needs
 
 returns : tie.Need-returns
 returns c =
@@ -29,10 +23,4 @@ returns c =
 
 pub form-spec : {M : Type 1} → statement M
 form-spec =
-    tie.close
-    (tie.spec
-    head-requires
-    meter-lines-requires
-    tempo-lines-requires
-    same-length
-    returns)
+    tie.close (tie.spec (λ c κs. omega arith) meter-lines-requires tempo-lines-requires (λ c. search needs) returns)

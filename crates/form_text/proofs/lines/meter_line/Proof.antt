@@ -13,12 +13,6 @@ use Rattle.form_text.proofs.lines.meter_line.Tie as tie
 figures : (c : tie.Start) → (length (decimal (c .args .bar)) ≤ 10) × (length (decimal (c .args .num)) ≤ 10) × (length (decimal (c .args .den)) ≤ 10)
 figures c = (digits32 (c .args .bar) (omega arith), digits32 (c .args .num) (omega arith), digits32 (c .args .den) (omega arith))
 
-slice-aggregate-bytes : tie.Need-slice-aggregate-bytes
-slice-aggregate-bytes c = search needs
-
-bytes-requires : tie.Need-bytes-requires
-bytes-requires c κs = search needs
-
 decimal-requires : tie.Need-decimal-requires
 decimal-requires c κs =
     let half = c .before .before .before in
@@ -55,9 +49,6 @@ byte-requires-3 c κs =
     let f = figures (half .before .before .before .before .before .before .before .before .before .before .before .before .before .before) in
     omega (arith, f .0, f .1, f .2)
 
-same-length : tie.Need-same-length
-same-length c = search needs
-
 returns : tie.Need-returns
 returns c =
     let end = c .before .before in
@@ -84,14 +75,5 @@ returns c =
 pub meter-line-spec : {M : Type 1} → statement M
 meter-line-spec =
     tie.close
-    (tie.spec
-    slice-aggregate-bytes
-    bytes-requires
-    decimal-requires
-    byte-requires
-    decimal-requires-2
-    byte-requires-2
-    decimal-requires-3
-    byte-requires-3
-    same-length
+    (tie.spec (λ c. search needs) (λ c κs. search needs) decimal-requires byte-requires decimal-requires-2 byte-requires-2 decimal-requires-3 byte-requires-3 (λ c. search needs)
     returns)

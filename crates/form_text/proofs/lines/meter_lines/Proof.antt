@@ -19,57 +19,12 @@ abbrev μ-loop : tie.MeasureT-loop
 loop-holds : tie.Need-loop-holds Inv-loop μ-loop
 loop-holds c = (omega arith, refl, omega arith, no-meters _ _ _)
 
-mul-bar : tie.Need-mul-bar Inv-loop μ-loop
-mul-bar c = omega arith
-
-mul-bar-2 : tie.Need-mul-bar-2 Inv-loop μ-loop
-mul-bar-2 c = search needs
-
-shared-slice-read-bar : tie.Need-shared-slice-read-bar Inv-loop μ-loop
-shared-slice-read-bar c = search needs
-
-mul-num : tie.Need-mul-num Inv-loop μ-loop
-mul-num c = omega arith
-
-add-num : tie.Need-add-num Inv-loop μ-loop
-add-num c = omega arith
-
-mul-num-2 : tie.Need-mul-num-2 Inv-loop μ-loop
-mul-num-2 c = search needs
-
-shared-slice-read-num : tie.Need-shared-slice-read-num Inv-loop μ-loop
-shared-slice-read-num c = search needs
-
-mul-den : tie.Need-mul-den Inv-loop μ-loop
-mul-den c = omega arith
-
-add-den : tie.Need-add-den Inv-loop μ-loop
-add-den c = omega arith
-
-mul-den-2 : tie.Need-mul-den-2 Inv-loop μ-loop
-mul-den-2 c = search needs
-
-shared-slice-read-den : tie.Need-shared-slice-read-den Inv-loop μ-loop
-shared-slice-read-den c = search needs
-
-meter-line-requires : tie.Need-meter-line-requires Inv-loop μ-loop
-meter-line-requires c κs = omega arith
-
-add-k : tie.Need-add-k Inv-loop μ-loop
-add-k c = omega arith
-
-loop-less : tie.Need-loop-less Inv-loop μ-loop
-loop-less c = omega arith
-
 loop-again : tie.Need-loop-again Inv-loop μ-loop
 loop-again c =
     let turn = c .before .before in
     let l = turn .before .before .before .before .before .before in
     let a = l .before .before .before .args in
     (omega arith, omega arith, omega (arith, turn .meter-line .ensures .1), next-meter (a .words .now) (l .loop .k) (omega arith) (l .loop .inv .3) (turn .meter-line .ensures .0))
-
-same-length : tie.Need-same-length Inv-loop μ-loop
-same-length c = search needs
 
 returns : tie.Need-returns Inv-loop μ-loop
 returns c =
@@ -81,24 +36,5 @@ returns c =
 pub meter-lines-spec : {M : Type 1} → statement M
 meter-lines-spec =
     tie.close
-    (tie.spec
-    Inv-loop
-    μ-loop
-    loop-holds
-    mul-bar
-    mul-bar-2
-    shared-slice-read-bar
-    mul-num
-    add-num
-    mul-num-2
-    shared-slice-read-num
-    mul-den
-    add-den
-    mul-den-2
-    shared-slice-read-den
-    meter-line-requires
-    add-k
-    loop-less
-    loop-again
-    same-length
-    returns)
+    (tie.spec Inv-loop μ-loop loop-holds (λ c. omega arith) (λ c. search needs) (λ c. search needs) (λ c. omega arith) (λ c. omega arith) (λ c. search needs) (λ c. search needs)
+    (λ c. omega arith) (λ c. omega arith) (λ c. search needs) (λ c. search needs) (λ c κs. omega arith) (λ c. omega arith) (λ c. omega arith) loop-again (λ c. search needs) returns)

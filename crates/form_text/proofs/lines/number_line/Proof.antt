@@ -6,9 +6,6 @@ use Rattle.form_text.proofs.Rows.{number-put}
 use Rattle.form_text.proofs.lines.number_line.Statement.{statement}
 use Rattle.form_text.proofs.lines.number_line.Tie as tie
 
-bytes-requires : tie.Need-bytes-requires
-bytes-requires c κs = omega arith
-
 decimal-requires : tie.Need-decimal-requires
 decimal-requires c κs = let a = c .before .before .before .before .before .before .before .args in omega (arith, digits32 (a .number) (omega arith), c .before .before .before .bytes .ensures .next-is)
 
@@ -18,9 +15,6 @@ byte-requires c κs =
     let word = number .before .before .before .before in
     let a = word .before .before .before .before .args in
     omega (arith, digits32 (a .number) (omega arith), word .bytes .ensures .next-is, number .decimal .ensures .next-is)
-
-same-length : tie.Need-same-length
-same-length c = search needs
 
 returns : tie.Need-returns
 returns c =
@@ -32,10 +26,4 @@ returns c =
 
 pub number-line-spec : {M : Type 1} → statement M
 number-line-spec =
-    tie.close
-    (tie.spec
-    bytes-requires
-    decimal-requires
-    byte-requires
-    same-length
-    returns)
+    tie.close (tie.spec (λ c κs. omega arith) decimal-requires byte-requires (λ c. search needs) returns)

@@ -19,18 +19,6 @@ room c =
     let den : beat .den < 2 ^ 32 = search needs in
     beat-short beat num den
 
-enum-told : tie.Need-enum-told
-enum-told c = search needs
-
-enum-known-pickup : tie.Need-enum-known-pickup
-enum-known-pickup c = search needs
-
-slice-aggregate-bytes : tie.Need-slice-aggregate-bytes
-slice-aggregate-bytes c = search needs
-
-bytes-requires : tie.Need-bytes-requires
-bytes-requires c κs = search needs
-
 beat-requires : tie.Need-beat-requires
 beat-requires c κs = omega (arith, room (c .before .before .before .before .before .before), c .before .before .before .bytes .ensures .next-is)
 
@@ -43,9 +31,6 @@ byte-requires c κs =
 returns : tie.Need-returns
 returns c = (pickup-none _ _ (c .enum-told .given .1), omega arith)
 
-same-length : tie.Need-same-length
-same-length c = search needs
-
 returns-2 : tie.Need-returns-2
 returns-2 c =
     let end = c .before .before .byte .ensures in
@@ -57,14 +42,4 @@ returns-2 c =
 
 pub pickup-line-spec : {M : Type 1} → statement M
 pickup-line-spec =
-    tie.close
-    (tie.spec
-    enum-told
-    enum-known-pickup
-    slice-aggregate-bytes
-    bytes-requires
-    beat-requires
-    byte-requires
-    returns
-    same-length
-    returns-2)
+    tie.close (tie.spec (λ c. search needs) (λ c. search needs) (λ c. search needs) (λ c κs. search needs) beat-requires byte-requires returns (λ c. search needs) returns-2)

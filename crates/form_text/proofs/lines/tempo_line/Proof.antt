@@ -18,12 +18,6 @@ room c =
     let den : c .args .beat .den < 2 ^ 32 = search needs in
     beat-short (c .args .beat) num den
 
-slice-aggregate-bytes : tie.Need-slice-aggregate-bytes
-slice-aggregate-bytes c = search needs
-
-bytes-requires : tie.Need-bytes-requires
-bytes-requires c κs = search needs
-
 beat-requires : tie.Need-beat-requires
 beat-requires c κs = omega (arith, room (c .before .before .before .before .before .before .before))
 
@@ -35,9 +29,6 @@ tempo-requires c κs = omega (arith, room (c .before .before .before .before .be
 
 byte-requires-2 : tie.Need-byte-requires-2
 byte-requires-2 c κs = omega (arith, room (c .before .before .before .before .before .before .before .before .before .before .before .before .before .before .before .before .before .before .before))
-
-same-length : tie.Need-same-length
-same-length c = search needs
 
 returns : tie.Need-returns
 returns c =
@@ -53,13 +44,4 @@ returns c =
 
 pub tempo-line-spec : {M : Type 1} → statement M
 tempo-line-spec =
-    tie.close
-    (tie.spec
-    slice-aggregate-bytes
-    bytes-requires
-    beat-requires
-    byte-requires
-    tempo-requires
-    byte-requires-2
-    same-length
-    returns)
+    tie.close (tie.spec (λ c. search needs) (λ c κs. search needs) beat-requires byte-requires tempo-requires byte-requires-2 (λ c. search needs) returns)

@@ -22,33 +22,6 @@ abbrev μ-loop : tie.MeasureT-loop
 loop-holds : tie.Need-loop-holds Inv-loop μ-loop
 loop-holds c = (omega arith, refl, omega arith, no-tempos _ _ _ _ _)
 
-mul-num : tie.Need-mul-num Inv-loop μ-loop
-mul-num c = search needs
-
-shared-slice-copy-out-num : tie.Need-shared-slice-copy-out-num Inv-loop μ-loop
-shared-slice-copy-out-num c = search needs
-
-mul-den : tie.Need-mul-den Inv-loop μ-loop
-mul-den c = search needs
-
-shared-slice-read-den : tie.Need-shared-slice-read-den Inv-loop μ-loop
-shared-slice-read-den c = search needs
-
-mul-bits : tie.Need-mul-bits Inv-loop μ-loop
-mul-bits c = search needs
-
-shared-slice-read-bits : tie.Need-shared-slice-read-bits Inv-loop μ-loop
-shared-slice-read-bits c = search needs
-
-tempo-line-requires : tie.Need-tempo-line-requires Inv-loop μ-loop
-tempo-line-requires c κs = omega arith
-
-add-k : tie.Need-add-k Inv-loop μ-loop
-add-k c = omega arith
-
-loop-less : tie.Need-loop-less Inv-loop μ-loop
-loop-less c = omega arith
-
 loop-again : tie.Need-loop-again Inv-loop μ-loop
 loop-again c =
     let turn = c .before .before in
@@ -58,9 +31,6 @@ loop-again c =
     let here = toZ-ofZ w64 (getD (a .nums .now) (l .loop .k) (pos 0)) (record { sfits = num .num .given }) in
     let next = next-tempo (a .nums .now) (a .dens .now) (a .bpms .now) (l .loop .k) (omega arith) (l .loop .inv .3) here (turn .tempo-line .ensures .0) in
     (omega arith, omega arith, omega (arith, turn .tempo-line .ensures .1), next)
-
-same-length : tie.Need-same-length Inv-loop μ-loop
-same-length c = search needs
 
 returns : tie.Need-returns Inv-loop μ-loop
 returns c =
@@ -72,19 +42,5 @@ returns c =
 pub tempo-lines-spec : {M : Type 1} → statement M
 tempo-lines-spec =
     tie.close
-    (tie.spec
-    Inv-loop
-    μ-loop
-    loop-holds
-    mul-num
-    shared-slice-copy-out-num
-    mul-den
-    shared-slice-read-den
-    mul-bits
-    shared-slice-read-bits
-    tempo-line-requires
-    add-k
-    loop-less
-    loop-again
-    same-length
-    returns)
+    (tie.spec Inv-loop μ-loop loop-holds (λ c. search needs) (λ c. search needs) (λ c. search needs) (λ c. search needs) (λ c. search needs) (λ c. search needs)
+    (λ c κs. omega arith) (λ c. omega arith) (λ c. omega arith) loop-again (λ c. search needs) returns)

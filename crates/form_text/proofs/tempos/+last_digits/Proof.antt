@@ -33,9 +33,6 @@ module _ (t : ℕ) where
   returns : lts.Need-returns calls digits-at digits.Post
   returns c = no-digits _ _ _ _ _ (c .if1 .taken)
 
-  sub-last-digits : lts.Need-sub-last-digits calls digits-at digits.Post
-  sub-last-digits c = search needs
-
   div-last-digits : lts.Need-div-last-digits calls digits-at digits.Post
   div-last-digits c = let s = c .before .before .before in omega (arith, s .pre .1)
 
@@ -54,9 +51,6 @@ module _ (t : ℕ) where
       let a = front .before .before .before .before .args in
       omega (arith, digits-length (a .base) (a .count - 1) (a .n / a .base), front .last-digits .ensures .next-is)
 
-  same-length : lts.Need-same-length calls digits-at digits.Post
-  same-length c = search needs
-
   returns-2 : lts.Need-returns-2 calls digits-at digits.Post
   returns-2 c =
       let last = c .before .before in
@@ -68,15 +62,5 @@ module _ (t : ℕ) where
       retext (more-digits (a .base) (a .n) (a .count) (omega arith)) (behind (omega arith) (front .last-digits .ensures) put)
 
 pub +last-digits-spec : {M : Type 1} → statement M
-+last-digits-spec = close μ-digits λ t. lts.spec (calls t)
-    (digits-at t)
-    digits.Post
-    (returns t)
-    (sub-last-digits t)
-    (div-last-digits t)
-    (last-digits-requires t)
-    (rem-digit-byte t)
-    (digit-byte-requires t)
-    (byte-requires t)
-    (same-length t)
-    (returns-2 t)
++last-digits-spec = close μ-digits λ t. lts.spec (calls t) (digits-at t) digits.Post (returns t) (λ c. search needs) (div-last-digits t) (last-digits-requires t) (rem-digit-byte t)
+    (digit-byte-requires t) (byte-requires t) (λ c. search needs) (returns-2 t)

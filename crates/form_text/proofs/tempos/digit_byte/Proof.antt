@@ -4,18 +4,6 @@ use borrow.Author.Tests.{lt-ltb, le-ltb}
 use Rattle.form_text.proofs.tempos.digit_byte.Statement.{statement}
 use Rattle.form_text.proofs.tempos.digit_byte.Tie as tie
 
-add-result : tie.Need-add-result
-add-result c = search needs
-
-cast-result : tie.Need-cast-result
-cast-result c = search needs
-
-add-result-2 : tie.Need-add-result-2
-add-result-2 c = search needs
-
-cast-result-2 : tie.Need-cast-result-2
-cast-result-2 c = search needs
-
 returns : tie.Need-returns
 returns c = simp (lt-ltb (c .before .args .digit) 10 (c .if1 .taken))
 
@@ -24,11 +12,4 @@ returns-2 c = simp (le-ltb (c .before .args .digit) 10 (c .if1 .left))
 
 pub digit-byte-spec : {M : Type 1} → statement M
 digit-byte-spec =
-    tie.close
-    (tie.spec
-    add-result
-    cast-result
-    add-result-2
-    cast-result-2
-    returns
-    returns-2)
+    tie.close (tie.spec (λ c. search needs) (λ c. search needs) (λ c. search needs) (λ c. search needs) returns returns-2)

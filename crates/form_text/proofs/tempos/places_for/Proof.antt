@@ -16,21 +16,12 @@ abbrev μ-loop : tie.MeasureT-loop
 loop-holds : tie.Need-loop-holds Inv-loop μ-loop
 loop-holds c = (omega arith, refl)
 
-reads-back-requires : tie.Need-reads-back-requires Inv-loop μ-loop
-reads-back-requires c κs = omega arith
-
 returns : tie.Need-returns Inv-loop μ-loop
 returns c =
     let l = c .before .before .before in
     let bits = l .before .args .bits in
     let p = l .loop .places in
     (sym (place-found bits p (5 - p) (omega arith) (sym (c .before .reads-back .ensures) ∙ c .if1 .taken)) ∙ l .loop .inv .1, omega arith)
-
-add-places : tie.Need-add-places Inv-loop μ-loop
-add-places c = omega arith
-
-loop-less : tie.Need-loop-less Inv-loop μ-loop
-loop-less c = omega arith
 
 loop-again : tie.Need-loop-again Inv-loop μ-loop
 loop-again c =
@@ -49,14 +40,4 @@ returns-2 c =
 
 pub places-for-spec : {M : Type 1} → statement M
 places-for-spec =
-    tie.close
-    (tie.spec
-    Inv-loop
-    μ-loop
-    loop-holds
-    reads-back-requires
-    returns
-    add-places
-    loop-less
-    loop-again
-    returns-2)
+    tie.close (tie.spec Inv-loop μ-loop loop-holds (λ c κs. omega arith) returns (λ c. omega arith) (λ c. omega arith) loop-again returns-2)

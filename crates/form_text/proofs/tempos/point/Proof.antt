@@ -17,9 +17,6 @@ short c =
     let q = div-le-self (a .digits) (c .ten .result) in
     digits32 (a .digits / c .ten .result) (omega arith)
 
-ten-requires : tie.Need-ten-requires
-ten-requires c κs = search needs
-
 div-decimal : tie.Need-div-decimal
 div-decimal c = omega (arith, c .before .ten .ensures .1)
 
@@ -28,9 +25,6 @@ cast-decimal c = omega (arith, div-le-self (c .before .before .before .args .dig
 
 decimal-requires : tie.Need-decimal-requires
 decimal-requires c κs = omega (arith, short (c .before))
-
-same-length : tie.Need-same-length
-same-length c = search needs
 
 returns : tie.Need-returns
 returns c =
@@ -48,9 +42,6 @@ last-digits-requires c κs =
     let whole = point .before .before .before .before .before in
     (omega (arith, short (whole .before .before), whole .decimal .ensures .next-is, point .byte .ensures .next-is), omega arith, omega arith)
 
-same-length-2 : tie.Need-same-length-2
-same-length-2 c = search needs
-
 returns-2 : tie.Need-returns-2
 returns-2 c =
     let ten = c .before .before .before .before .before .before .before .before .before .before .before .before .before in
@@ -66,14 +57,4 @@ returns-2 c =
 pub point-spec : {M : Type 1} → statement M
 point-spec =
     tie.close
-    (tie.spec
-    ten-requires
-    div-decimal
-    cast-decimal
-    decimal-requires
-    same-length
-    returns
-    byte-requires
-    last-digits-requires
-    same-length-2
-    returns-2)
+    (tie.spec (λ c κs. search needs) div-decimal cast-decimal decimal-requires (λ c. search needs) returns byte-requires last-digits-requires (λ c. search needs) returns-2)

@@ -5,17 +5,8 @@ use Rattle.form_text.proofs.Digits.{not-back, is-back}
 use Rattle.form_text.proofs.tempos.reads_back.Statement.{statement}
 use Rattle.form_text.proofs.tempos.reads_back.Tie as tie
 
-digits-for-requires : tie.Need-digits-for-requires
-digits-for-requires c κs = search needs
-
 returns : tie.Need-returns
 returns c = let a = c .before .before .args in not-back (a .bits) (a .places) (c .before .digits-for .ensures) (omega arith)
-
-cast-over-ten : tie.Need-cast-over-ten
-cast-over-ten c = search needs
-
-over-ten-requires : tie.Need-over-ten-requires
-over-ten-requires c κs = search needs
 
 returns-2 : tie.Need-returns-2
 returns-2 c =
@@ -24,4 +15,4 @@ returns-2 c =
 
 pub reads-back-spec : {M : Type 1} → statement M
 reads-back-spec =
-    tie.close (tie.spec digits-for-requires returns cast-over-ten over-ten-requires returns-2)
+    tie.close (tie.spec (λ c κs. search needs) returns (λ c. search needs) (λ c κs. search needs) returns-2)

@@ -6,12 +6,6 @@ use Rattle.form_text.proofs.Digits.{few-digits, tempo-decimal, tempo-bi
 use Rattle.form_text.proofs.tempos.tempo.Statement.{statement}
 use Rattle.form_text.proofs.tempos.tempo.Tie as tie
 
-places-for-requires : tie.Need-places-for-requires
-places-for-requires c κs = search needs
-
-digits-for-requires : tie.Need-digits-for-requires
-digits-for-requires c κs = omega arith
-
 cast-point : tie.Need-cast-point
 cast-point c =
     let places = c .before .before .before .places-for in
@@ -20,17 +14,8 @@ cast-point c =
 point-requires : tie.Need-point-requires
 point-requires c κs = (omega arith, omega arith)
 
-slice-aggregate-bytes : tie.Need-slice-aggregate-bytes
-slice-aggregate-bytes c = search needs
-
-bytes-requires : tie.Need-bytes-requires
-bytes-requires c κs = search needs
-
 last-digits-requires : tie.Need-last-digits-requires
 last-digits-requires c κs = (omega (arith, c .before .before .before .bytes .ensures .next-is), omega arith, omega arith)
-
-same-length : tie.Need-same-length
-same-length c = search needs
 
 returns : tie.Need-returns
 returns c =
@@ -38,9 +23,6 @@ returns c =
     let bits = c .before .before .before .before .before .before .before .before .args .bits in
     let point = c .before .before .point .ensures in
     (retext (tempo-decimal bits (places .ensures .0) (c .before .before .before .before .before .if1 .taken) (c .before .before .before .before .digits-for .ensures)) (point .0), point .1)
-
-same-length-2 : tie.Need-same-length-2
-same-length-2 c = search needs
 
 returns-2 : tie.Need-returns-2
 returns-2 c =
@@ -54,15 +36,5 @@ returns-2 c =
 pub tempo-spec : {M : Type 1} → statement M
 tempo-spec =
     tie.close
-    (tie.spec
-    places-for-requires
-    digits-for-requires
-    cast-point
-    point-requires
-    slice-aggregate-bytes
-    bytes-requires
-    last-digits-requires
-    same-length
-    returns
-    same-length-2
-    returns-2)
+    (tie.spec (λ c κs. search needs) (λ c κs. omega arith) cast-point point-requires (λ c. search needs) (λ c κs. search needs) last-digits-requires (λ c. search needs) returns
+    (λ c. search needs) returns-2)

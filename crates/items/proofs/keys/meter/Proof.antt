@@ -6,9 +6,6 @@ use Rattle.splits.specs.Readings.{readFound}
 use Rattle.items.proofs.keys.meter.Statement.{statement}
 use Rattle.items.proofs.keys.meter.Tie as tie
 
-enum-known-behind : tie.Need-enum-known-behind
-enum-known-behind c = search needs
-
 sub-meter-point : tie.Need-sub-meter-point
 sub-meter-point c = omega (arith, rw (c .before .behind .given .1) at (c .before .before .before .before .pre))
 
@@ -27,15 +24,6 @@ part-meter-point-start-2 c = omega (arith, rw (c .before .before .behind .given 
 part-meter-point-end-2 : tie.Need-part-meter-point-end-2
 part-meter-point-end-2 c = omega (arith, rw (c .before .before .behind .given .1) at (c .before .before .before .before .before .pre))
 
-meter-point-requires : tie.Need-meter-point-requires
-meter-point-requires c κs = search needs
-
-enum-told : tie.Need-enum-told
-enum-told c = search needs
-
-enum-told-2 : tie.Need-enum-told-2
-enum-told-2 c = search needs
-
 returns : tie.Need-returns
 unfolding meterItem readFound
 returns c = rw (c .before .before .before .before .behind .given .1) (c .meter-point .ensures)
@@ -51,17 +39,5 @@ returns-3 c = rw (c .enum-told2 .given .1)
 pub meter-spec : {M : Type 1} → statement M
 meter-spec =
     tie.close
-    (tie.spec
-    enum-known-behind
-    sub-meter-point
-    part-meter-point-start
-    part-meter-point-end
-    sub-meter-point-2
-    part-meter-point-start-2
-    part-meter-point-end-2
-    meter-point-requires
-    enum-told
-    enum-told-2
-    returns
-    returns-2
-    returns-3)
+    (tie.spec (λ c. search needs) sub-meter-point part-meter-point-start part-meter-point-end sub-meter-point-2 part-meter-point-start-2 part-meter-point-end-2
+    (λ c κs. search needs) (λ c. search needs) (λ c. search needs) returns returns-2 returns-3)

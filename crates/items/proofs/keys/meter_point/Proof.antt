@@ -6,18 +6,6 @@ use Rattle.items.specs.declared.values.Value.{Value}
 use Rattle.items.proofs.keys.meter_point.Statement.{statement}
 use Rattle.items.proofs.keys.meter_point.Tie as tie
 
-number-requires : tie.Need-number-requires
-number-requires c κs = search needs
-
-enum-known-reason : tie.Need-enum-known-reason
-enum-known-reason c = search needs
-
-enum-known-bar : tie.Need-enum-known-bar
-enum-known-bar c = search needs
-
-meter-over-requires : tie.Need-meter-over-requires
-meter-over-requires c κs = search needs
-
 returns : tie.Need-returns
 unfolding barBy meterPoint
 returns c = ap (λ (v : Value). barBy v (c .before .before .before .before .before .before .args .word .now)) (sym (c .before .reason .given .1) ∙ c .before .before .before .number .ensures)
@@ -30,11 +18,4 @@ returns-2 c =
 
 pub meter-point-spec : {M : Type 1} → statement M
 meter-point-spec =
-    tie.close
-    (tie.spec
-    number-requires
-    enum-known-reason
-    enum-known-bar
-    meter-over-requires
-    returns
-    returns-2)
+    tie.close (tie.spec (λ c κs. search needs) (λ c. search needs) (λ c. search needs) (λ c κs. search needs) returns returns-2)

@@ -9,27 +9,9 @@ use Rattle.splits.proofs.Laws.{no-word, next-word}
 use Rattle.items.proofs.keys.of_body.Statement.{statement}
 use Rattle.items.proofs.keys.of_body.Tie as tie
 
-blanks-requires : tie.Need-blanks-requires
-blanks-requires c κs = search needs
-
 returns : tie.Need-returns
 unfolding itemOf
 returns c = sym (ap itemOf (no-word (c .before .before .before .args .line .now) 0 (c .before .blanks .result) (c .before .blanks .ensures .0) (c .if1 .taken)))
-
-word-requires : tie.Need-word-requires
-word-requires c κs = omega arith
-
-sub-keyed : tie.Need-sub-keyed
-sub-keyed c = omega arith
-
-part-keyed-start : tie.Need-part-keyed-start
-part-keyed-start c = omega arith
-
-part-keyed-end : tie.Need-part-keyed-end
-part-keyed-end c = omega arith
-
-words-requires : tie.Need-words-requires
-words-requires c κs = omega arith
 
 keyed-requires : tie.Need-keyed-requires
 keyed-requires c κs = c .words .ensures .1
@@ -46,13 +28,4 @@ returns-2 c =
 pub of-body-spec : {M : Type 1} → statement M
 of-body-spec =
     tie.close
-    (tie.spec
-    blanks-requires
-    returns
-    word-requires
-    sub-keyed
-    part-keyed-start
-    part-keyed-end
-    words-requires
-    keyed-requires
-    returns-2)
+    (tie.spec (λ c κs. search needs) returns (λ c κs. omega arith) (λ c. omega arith) (λ c. omega arith) (λ c. omega arith) (λ c κs. omega arith) keyed-requires returns-2)

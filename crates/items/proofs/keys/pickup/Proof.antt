@@ -7,9 +7,6 @@ use Rattle.splits.specs.Readings.{readFound}
 use Rattle.items.proofs.keys.pickup.Statement.{statement}
 use Rattle.items.proofs.keys.pickup.Tie as tie
 
-enum-known-behind : tie.Need-enum-known-behind
-enum-known-behind c = search needs
-
 sub-beat : tie.Need-sub-beat
 sub-beat c = omega (arith, rw (c .before .behind .given .1) at (c .before .before .before .before .pre))
 
@@ -18,21 +15,6 @@ part-beat-start c = omega (arith, rw (c .before .behind .given .1) at (c .before
 
 part-beat-end : tie.Need-part-beat-end
 part-beat-end c = omega (arith, rw (c .before .behind .given .1) at (c .before .before .before .before .pre))
-
-beat-requires : tie.Need-beat-requires
-beat-requires c κs = search needs
-
-enum-known-reason : tie.Need-enum-known-reason
-enum-known-reason c = search needs
-
-enum-known-beat : tie.Need-enum-known-beat
-enum-known-beat c = search needs
-
-enum-told : tie.Need-enum-told
-enum-told c = search needs
-
-enum-told-2 : tie.Need-enum-told-2
-enum-told-2 c = search needs
 
 returns : tie.Need-returns
 unfolding pickupItem pickupBy readFound
@@ -53,17 +35,5 @@ returns-4 c = rw (c .enum-told2 .given .1)
 pub pickup-spec : {M : Type 1} → statement M
 pickup-spec =
     tie.close
-    (tie.spec
-    enum-known-behind
-    sub-beat
-    part-beat-start
-    part-beat-end
-    beat-requires
-    enum-known-reason
-    enum-known-beat
-    enum-told
-    enum-told-2
-    returns
-    returns-2
-    returns-3
-    returns-4)
+    (tie.spec (λ c. search needs) sub-beat part-beat-start part-beat-end (λ c κs. search needs) (λ c. search needs) (λ c. search needs) (λ c. search needs) (λ c. search needs)
+    returns returns-2 returns-3 returns-4)

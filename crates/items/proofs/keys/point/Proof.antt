@@ -6,24 +6,6 @@ use Rattle.items.specs.Items.{pointBy}
 use Rattle.items.proofs.keys.point.Statement.{statement}
 use Rattle.items.proofs.keys.point.Tie as tie
 
-beat-requires : tie.Need-beat-requires
-beat-requires c κs = search needs
-
-enum-known-reason : tie.Need-enum-known-reason
-enum-known-reason c = search needs
-
-enum-known-beat : tie.Need-enum-known-beat
-enum-known-beat c = search needs
-
-tempo-requires : tie.Need-tempo-requires
-tempo-requires c κs = search needs
-
-enum-known-reason-2 : tie.Need-enum-known-reason-2
-enum-known-reason-2 c = search needs
-
-enum-known-bits : tie.Need-enum-known-bits
-enum-known-bits c = search needs
-
 returns : tie.Need-returns
 unfolding pointBy
 returns c = point-is _ (c .before .before .before .before .before .before .args .word .now) (sym (c .before .reason .given .1) ∙ c .before .before .before .beat .ensures) refl
@@ -44,14 +26,4 @@ returns-3 c =
 
 pub point-spec : {M : Type 1} → statement M
 point-spec =
-    tie.close
-    (tie.spec
-    beat-requires
-    enum-known-reason
-    enum-known-beat
-    tempo-requires
-    enum-known-reason-2
-    enum-known-bits
-    returns
-    returns-2
-    returns-3)
+    tie.close (tie.spec (λ c κs. search needs) (λ c. search needs) (λ c. search needs) (λ c κs. search needs) (λ c. search needs) (λ c. search needs) returns returns-2 returns-3)

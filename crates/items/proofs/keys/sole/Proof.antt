@@ -6,9 +6,6 @@ use Rattle.splits.specs.Readings.{readFound}
 use Rattle.items.proofs.keys.sole.Statement.{statement}
 use Rattle.items.proofs.keys.sole.Tie as tie
 
-enum-known-behind : tie.Need-enum-known-behind
-enum-known-behind c = search needs
-
 sub-number : tie.Need-sub-number
 sub-number c = omega (arith, rw (c .before .behind .given .1) at (c .before .before .before .before .pre))
 
@@ -17,15 +14,6 @@ part-number-start c = omega (arith, rw (c .before .behind .given .1) at (c .befo
 
 part-number-end : tie.Need-part-number-end
 part-number-end c = omega (arith, rw (c .before .behind .given .1) at (c .before .before .before .before .pre))
-
-number-requires : tie.Need-number-requires
-number-requires c κs = search needs
-
-enum-told : tie.Need-enum-told
-enum-told c = search needs
-
-enum-told-2 : tie.Need-enum-told-2
-enum-told-2 c = search needs
 
 returns : tie.Need-returns
 unfolding soleNumber readFound
@@ -41,15 +29,4 @@ returns-3 c = rw (c .enum-told2 .given .1)
 
 pub sole-spec : {M : Type 1} → statement M
 sole-spec =
-    tie.close
-    (tie.spec
-    enum-known-behind
-    sub-number
-    part-number-start
-    part-number-end
-    number-requires
-    enum-told
-    enum-told-2
-    returns
-    returns-2
-    returns-3)
+    tie.close (tie.spec (λ c. search needs) sub-number part-number-start part-number-end (λ c κs. search needs) (λ c. search needs) (λ c. search needs) returns returns-2 returns-3)

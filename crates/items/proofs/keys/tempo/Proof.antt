@@ -7,9 +7,6 @@ use Rattle.splits.specs.Readings.{readFound}
 use Rattle.items.proofs.keys.tempo.Statement.{statement}
 use Rattle.items.proofs.keys.tempo.Tie as tie
 
-enum-known-behind : tie.Need-enum-known-behind
-enum-known-behind c = search needs
-
 sub-tempo : tie.Need-sub-tempo
 sub-tempo c = omega (arith, rw (c .before .behind .given .1) at (c .before .before .before .before .pre))
 
@@ -18,18 +15,6 @@ part-tempo-start c = omega (arith, rw (c .before .behind .given .1) at (c .befor
 
 part-tempo-end : tie.Need-part-tempo-end
 part-tempo-end c = omega (arith, rw (c .before .behind .given .1) at (c .before .before .before .before .pre))
-
-tempo-requires : tie.Need-tempo-requires
-tempo-requires c κs = search needs
-
-enum-known-reason : tie.Need-enum-known-reason
-enum-known-reason c = search needs
-
-enum-known-bits : tie.Need-enum-known-bits
-enum-known-bits c = search needs
-
-enum-known-behind-2 : tie.Need-enum-known-behind-2
-enum-known-behind-2 c = search needs
 
 sub-point : tie.Need-sub-point
 sub-point c = omega (arith, rw (c .before .behind2 .given .1) at (c .before .before .before .before .pre))
@@ -48,12 +33,6 @@ part-point-start-2 c = omega (arith, rw (c .before .before .behind2 .given .1) a
 
 part-point-end-2 : tie.Need-part-point-end-2
 part-point-end-2 c = omega (arith, rw (c .before .before .behind2 .given .1) at (c .before .before .before .before .before .pre))
-
-point-requires : tie.Need-point-requires
-point-requires c κs = search needs
-
-enum-told : tie.Need-enum-told
-enum-told c = search needs
 
 returns : tie.Need-returns
 unfolding tempoItem tempoBy readFound
@@ -74,24 +53,5 @@ returns-4 c = rw (c .enum-told .given .1)
 pub tempo-spec : {M : Type 1} → statement M
 tempo-spec =
     tie.close
-    (tie.spec
-    enum-known-behind
-    sub-tempo
-    part-tempo-start
-    part-tempo-end
-    tempo-requires
-    enum-known-reason
-    enum-known-bits
-    enum-known-behind-2
-    sub-point
-    part-point-start
-    part-point-end
-    sub-point-2
-    part-point-start-2
-    part-point-end-2
-    point-requires
-    enum-told
-    returns
-    returns-2
-    returns-3
-    returns-4)
+    (tie.spec (λ c. search needs) sub-tempo part-tempo-start part-tempo-end (λ c κs. search needs) (λ c. search needs) (λ c. search needs) (λ c. search needs) sub-point
+    part-point-start part-point-end sub-point-2 part-point-start-2 part-point-end-2 (λ c κs. search needs) (λ c. search needs) returns returns-2 returns-3 returns-4)

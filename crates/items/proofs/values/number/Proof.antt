@@ -5,15 +5,6 @@ use Rattle.items.specs.Items.{numberValue}
 use Rattle.items.proofs.values.number.Statement.{statement}
 use Rattle.items.proofs.values.number.Tie as tie
 
-number-requires : tie.Need-number-requires
-number-requires c κs = search needs
-
-enum-known-n : tie.Need-enum-known-n
-enum-known-n c = search needs
-
-enum-told : tie.Need-enum-told
-enum-told c = search needs
-
 returns : tie.Need-returns
 unfolding numberValue
 returns c = ap numberValue (sym (c .before .n .given .1) ∙ c .before .before .before .number .ensures)
@@ -23,4 +14,5 @@ unfolding numberValue
 returns-2 c = ap numberValue (sym (c .enum-told .given .1) ∙ c .before .before .number .ensures)
 
 pub number-spec : {M : Type 1} → statement M
-number-spec = tie.close (tie.spec number-requires enum-known-n enum-told returns returns-2)
+number-spec =
+    tie.close (tie.spec (λ c κs. search needs) (λ c. search needs) (λ c. search needs) returns returns-2)

@@ -5,15 +5,6 @@ use Rattle.items.specs.Items.{tempoValue}
 use Rattle.items.proofs.values.tempo.Statement.{statement}
 use Rattle.items.proofs.values.tempo.Tie as tie
 
-tempo-requires : tie.Need-tempo-requires
-tempo-requires c κs = search needs
-
-enum-known-bits : tie.Need-enum-known-bits
-enum-known-bits c = search needs
-
-enum-told : tie.Need-enum-told
-enum-told c = search needs
-
 returns : tie.Need-returns
 unfolding tempoValue
 returns c = ap tempoValue (sym (c .before .bits .given .1) ∙ c .before .before .before .tempo .ensures)
@@ -23,4 +14,5 @@ unfolding tempoValue
 returns-2 c = ap tempoValue (sym (c .enum-told .given .1) ∙ c .before .before .tempo .ensures)
 
 pub tempo-spec : {M : Type 1} → statement M
-tempo-spec = tie.close (tie.spec tempo-requires enum-known-bits enum-told returns returns-2)
+tempo-spec =
+    tie.close (tie.spec (λ c κs. search needs) (λ c. search needs) (λ c. search needs) returns returns-2)

@@ -32,66 +32,6 @@ found c =
     three-looks (s .args .frame) (s .args .lines .now) (s .pre .0) (s .args .place) (s .args .size) (s .pre .2) (partOf c) (omega arith) (omega arith) (omega arith)
     _ _ _ (omega arith) (omega arith) (omega arith) _ _ _ (c .before .before .before .before .less .ensures .0) (c .before .before .less2 .ensures .0) (c .less3 .ensures .0)
 
-add-part : tie.Need-add-part
-add-part c = search needs
-
-add-less : tie.Need-add-less
-add-less c = search needs
-
-sub-less : tie.Need-sub-less
-sub-less c = search needs
-
-mul-less : tie.Need-mul-less
-mul-less c = search needs
-
-shared-slice-read-less : tie.Need-shared-slice-read-less
-shared-slice-read-less c = search needs
-
-less-requires : tie.Need-less-requires
-less-requires c κs = search needs
-
-mul-less-2 : tie.Need-mul-less-2
-mul-less-2 c = search needs
-
-add-less-2 : tie.Need-add-less-2
-add-less-2 c = search needs
-
-sub-less-2 : tie.Need-sub-less-2
-sub-less-2 c = search needs
-
-mul-less-3 : tie.Need-mul-less-3
-mul-less-3 c = search needs
-
-shared-slice-read-less-2 : tie.Need-shared-slice-read-less-2
-shared-slice-read-less-2 c = search needs
-
-less-requires-2 : tie.Need-less-requires-2
-less-requires-2 c κs = search needs
-
-mul-less-4 : tie.Need-mul-less-4
-mul-less-4 c = search needs
-
-add-less-3 : tie.Need-add-less-3
-add-less-3 c = search needs
-
-sub-less-3 : tie.Need-sub-less-3
-sub-less-3 c = search needs
-
-mul-less-5 : tie.Need-mul-less-5
-mul-less-5 c = search needs
-
-shared-slice-read-less-3 : tie.Need-shared-slice-read-less-3
-shared-slice-read-less-3 c = search needs
-
-less-requires-3 : tie.Need-less-requires-3
-less-requires-3 c κs = search needs
-
-add-result : tie.Need-add-result
-add-result c = search needs
-
-add-result-2 : tie.Need-add-result-2
-add-result-2 c = search needs
-
 mul-result : tie.Need-mul-result
 mul-result c = record { fits = omega (arith, found c .between, found c .within) }
 
@@ -104,27 +44,6 @@ returns c = found c
 pub cut-spec : {M : Type 1} → statement M
 cut-spec =
     tie.close
-    (tie.spec
-    add-part
-    add-less
-    sub-less
-    mul-less
-    shared-slice-read-less
-    less-requires
-    mul-less-2
-    add-less-2
-    sub-less-2
-    mul-less-3
-    shared-slice-read-less-2
-    less-requires-2
-    mul-less-4
-    add-less-3
-    sub-less-3
-    mul-less-5
-    shared-slice-read-less-3
-    less-requires-3
-    add-result
-    add-result-2
-    mul-result
-    add-result-3
-    returns)
+    (tie.spec (λ c. search needs) (λ c. search needs) (λ c. search needs) (λ c. search needs) (λ c. search needs) (λ c κs. search needs) (λ c. search needs) (λ c. search needs)
+    (λ c. search needs) (λ c. search needs) (λ c. search needs) (λ c κs. search needs) (λ c. search needs) (λ c. search needs) (λ c. search needs) (λ c. search needs)
+    (λ c. search needs) (λ c κs. search needs) (λ c. search needs) (λ c. search needs) mul-result add-result-3 returns)

@@ -7,9 +7,6 @@ use borrow.Author.Needs.{needs}
 use Rattle.lines.proofs.range.part_from.Statement.{statement}
 use Rattle.lines.proofs.range.part_from.Tie as tie
 
-slice-aggregate-result : tie.Need-slice-aggregate-result
-slice-aggregate-result c = search needs
-
 returns : tie.Need-returns
 returns c =
     let s = c .before .before .before .args in
@@ -21,9 +18,6 @@ place-from-requires c κs =
     let i = c .if1 .left in
     (s .pre .0, no-earlier (s .args .end) (s .args .lines .now) (s .args .start) _ (omega arith) (s .pre .1))
 
-mul-result : tie.Need-mul-result
-mul-result c = search needs
-
 sub-result : tie.Need-sub-result
 sub-result c =
     let s = c .before .before .before in
@@ -33,9 +27,6 @@ sub-result c =
 part-result-start : tie.Need-part-result-start
 part-result-start c = sub-result c
 
-part-result-end : tie.Need-part-result-end
-part-result-end c = search needs
-
 returns-2 : tie.Need-returns-2
 returns-2 c =
     let s = c .before .before .before .before in
@@ -44,13 +35,4 @@ returns-2 c =
 
 pub part-from-spec : {M : Type 1} → statement M
 part-from-spec =
-    tie.close
-    (tie.spec
-    slice-aggregate-result
-    returns
-    place-from-requires
-    mul-result
-    sub-result
-    part-result-start
-    part-result-end
-    returns-2)
+    tie.close (tie.spec (λ c. search needs) returns place-from-requires (λ c. search needs) sub-result part-result-start (λ c. search needs) returns-2)

@@ -17,38 +17,11 @@ abbrev μ-loop : tie.MeasureT-loop
 loop-holds : tie.Need-loop-holds Inv-loop μ-loop
 loop-holds c = (omega arith, c .before .pre .1)
 
-sub-loop : tie.Need-sub-loop Inv-loop μ-loop
-sub-loop c = search needs
-
-sub-last : tie.Need-sub-last Inv-loop μ-loop
-sub-last c = search needs
-
-add-last : tie.Need-add-last Inv-loop μ-loop
-add-last c = search needs
-
-mul-if1 : tie.Need-mul-if1 Inv-loop μ-loop
-mul-if1 c = search needs
-
-shared-slice-read-if1 : tie.Need-shared-slice-read-if1 Inv-loop μ-loop
-shared-slice-read-if1 c = search needs
-
 search-requires : tie.Need-search-requires Inv-loop μ-loop
 search-requires c κs =
     let b = c .before .before .before .loop .inv in
     let s = c .before .before .before .before .before in
     (s .pre .0, up-to (s .args .frame) (s .args .lines .now) _ _ (b .1) (s .pre .0) _ (omega arith) (omega arith) (c .if1 .taken))
-
-returns : tie.Need-returns Inv-loop μ-loop
-returns c = search needs
-
-add-low : tie.Need-add-low Inv-loop μ-loop
-add-low c = search needs
-
-add-step : tie.Need-add-step Inv-loop μ-loop
-add-step c = search needs
-
-loop-less : tie.Need-loop-less Inv-loop μ-loop
-loop-less c = search needs
 
 loop-again : tie.Need-loop-again Inv-loop μ-loop
 loop-again c =
@@ -59,26 +32,8 @@ loop-again c =
 search-requires-2 : tie.Need-search-requires-2 Inv-loop μ-loop
 search-requires-2 c κs = (c .before .before .before .pre .0, c .before .loop .inv .1)
 
-returns-2 : tie.Need-returns-2 Inv-loop μ-loop
-returns-2 c = search needs
-
 pub place-from-spec : {M : Type 1} → statement M
 place-from-spec =
     tie.close
-    (tie.spec
-    Inv-loop
-    μ-loop
-    loop-holds
-    sub-loop
-    sub-last
-    add-last
-    mul-if1
-    shared-slice-read-if1
-    search-requires
-    returns
-    add-low
-    add-step
-    loop-less
-    loop-again
-    search-requires-2
-    returns-2)
+    (tie.spec Inv-loop μ-loop loop-holds (λ c. search needs) (λ c. search needs) (λ c. search needs) (λ c. search needs) (λ c. search needs) search-requires (λ c. search needs)
+    (λ c. search needs) (λ c. search needs) (λ c. search needs) loop-again search-requires-2 (λ c. search needs))

@@ -13,9 +13,6 @@ Inv-loop lines low high frame place₀ size₀ place size = Bracket frame lines 
 abbrev μ-loop : tie.MeasureT-loop
 μ-loop lines low high frame place₀ size₀ place size = size
 
-sub-size : tie.Need-sub-size Inv-loop μ-loop
-sub-size c = search needs
-
 loop-holds : tie.Need-loop-holds Inv-loop μ-loop
 loop-holds c =
     let s = c .before in
@@ -24,40 +21,11 @@ loop-holds c =
 cut-requires : tie.Need-cut-requires Inv-loop μ-loop
 cut-requires c κs = (c .before .before .before .pre .0, c .loop-test .taken, c .before .loop .inv)
 
-add-size : tie.Need-add-size Inv-loop μ-loop
-add-size c = search needs
-
-mul-size : tie.Need-mul-size Inv-loop μ-loop
-mul-size c = search needs
-
-sub-size-2 : tie.Need-sub-size-2 Inv-loop μ-loop
-sub-size-2 c = search needs
-
-loop-less : tie.Need-loop-less Inv-loop μ-loop
-loop-less c = search needs
-
-loop-again : tie.Need-loop-again Inv-loop μ-loop
-loop-again c = search needs
-
 walk-requires : tie.Need-walk-requires Inv-loop μ-loop
 walk-requires c κs = (c .before .before .before .pre .0, c .before .loop .inv)
-
-returns : tie.Need-returns Inv-loop μ-loop
-returns c = search needs
 
 pub search-spec : {M : Type 1} → statement M
 search-spec =
     tie.close
-    (tie.spec
-    Inv-loop
-    μ-loop
-    sub-size
-    loop-holds
-    cut-requires
-    add-size
-    mul-size
-    sub-size-2
-    loop-less
-    loop-again
-    walk-requires
-    returns)
+    (tie.spec Inv-loop μ-loop (λ c. search needs) loop-holds cut-requires (λ c. search needs) (λ c. search needs) (λ c. search needs) (λ c. search needs) (λ c. search needs)
+    walk-requires (λ c. search needs))

@@ -6,25 +6,10 @@ use borrow.Author.Needs.{needs}
 use Rattle.lines.proofs.range.tested_part.Statement.{statement}
 use Rattle.lines.proofs.range.tested_part.Tie as tie
 
-enum-told : tie.Need-enum-told
-enum-told c = search needs
-
 part-requires : tie.Need-part-requires
 part-requires c κs =
     let s = c .before .before .before in
     fine-lines (s .args .lines .now) (sym (ap readLines (c .enum-told .given .1)) ∙ s .pre) .1
-
-enum-told-2 : tie.Need-enum-told-2
-enum-told-2 c = search needs
-
-slice-aggregate-result : tie.Need-slice-aggregate-result
-slice-aggregate-result c = search needs
-
-enum-told-3 : tie.Need-enum-told-3
-enum-told-3 c = search needs
-
-slice-aggregate-result-2 : tie.Need-slice-aggregate-result-2
-slice-aggregate-result-2 c = search needs
 
 returns : tie.Need-returns
 returns c =
@@ -43,14 +28,4 @@ returns-3 c =
 
 pub tested-part-spec : {M : Type 1} → statement M
 tested-part-spec =
-    tie.close
-    (tie.spec
-    enum-told
-    part-requires
-    enum-told-2
-    slice-aggregate-result
-    enum-told-3
-    slice-aggregate-result-2
-    returns
-    returns-2
-    returns-3)
+    tie.close (tie.spec (λ c. search needs) part-requires (λ c. search needs) (λ c. search needs) (λ c. search needs) (λ c. search needs) returns returns-2 returns-3)

@@ -16,24 +16,6 @@ abbrev μ-loop : tie.MeasureT-loop
 loop-holds : tie.Need-loop-holds Inv-loop μ-loop
 loop-holds c = c .before .pre .1
 
-mul-less : tie.Need-mul-less Inv-loop μ-loop
-mul-less c = search needs
-
-shared-slice-read-less : tie.Need-shared-slice-read-less Inv-loop μ-loop
-shared-slice-read-less c = search needs
-
-less-requires : tie.Need-less-requires Inv-loop μ-loop
-less-requires c κs = search needs
-
-add-place : tie.Need-add-place Inv-loop μ-loop
-add-place c = search needs
-
-sub-left : tie.Need-sub-left Inv-loop μ-loop
-sub-left c = search needs
-
-loop-less : tie.Need-loop-less Inv-loop μ-loop
-loop-less c = search needs
-
 loop-again : tie.Need-loop-again Inv-loop μ-loop
 loop-again c =
     let l = c .before .before .before .loop in
@@ -46,15 +28,5 @@ returns c = closed _ _ _ _ (c .before .loop .inv) (omega arith)
 pub walk-spec : {M : Type 1} → statement M
 walk-spec =
     tie.close
-    (tie.spec
-    Inv-loop
-    μ-loop
-    loop-holds
-    mul-less
-    shared-slice-read-less
-    less-requires
-    add-place
-    sub-left
-    loop-less
-    loop-again
+    (tie.spec Inv-loop μ-loop loop-holds (λ c. search needs) (λ c. search needs) (λ c κs. search needs) (λ c. search needs) (λ c. search needs) (λ c. search needs) loop-again
     returns)

@@ -10,18 +10,6 @@ use Rattle.meter.specs.Meters.{lenOf}
 use Rattle.meter.proofs.MeterPoint.len.Statement.{statement}
 use Rattle.meter.proofs.MeterPoint.len.Tie as tie
 
-cast-new : tie.Need-cast-new
-cast-new c = search needs
-
-mul-new : tie.Need-mul-new
-mul-new c = search needs
-
-cast-new-2 : tie.Need-cast-new-2
-cast-new-2 c = search needs
-
-new-requires : tie.Need-new-requires
-new-requires c κs = search needs
-
 returns : tie.Need-returns
 unfolding lenOf
 returns c =
@@ -29,4 +17,5 @@ returns c =
     c .new .ensures ∙ ap (λ (z : ℤ). newBeat z (s .args .self .denominator)) (read-pos (s .args .self .numerator * 4) (omega arith))
 
 pub len-spec : {M : Type 1} → statement M
-len-spec = tie.close (tie.spec cast-new mul-new cast-new-2 new-requires returns)
+len-spec =
+    tie.close (tie.spec (λ c. search needs) (λ c. search needs) (λ c. search needs) (λ c κs. search needs) returns)

@@ -9,21 +9,6 @@ use Rattle.meter.proofs.Walking.{bars-stopped}
 use Rattle.meter.proofs.bars.after_bars.Statement.{statement}
 use Rattle.meter.proofs.bars.after_bars.Tie as tie
 
-cast-mul : tie.Need-cast-mul
-cast-mul c = search needs
-
-mul-requires : tie.Need-mul-requires
-mul-requires c κs = search needs
-
-or-most-requires : tie.Need-or-most-requires
-or-most-requires c κs = search needs
-
-add-requires : tie.Need-add-requires
-add-requires c κs = search needs
-
-or-most-requires-2 : tie.Need-or-most-requires-2
-or-most-requires-2 c κs = search needs
-
 returns : tie.Need-returns
 returns c =
     let s = c .before .before .before .before in
@@ -35,5 +20,4 @@ returns c =
 
 pub after-bars-spec : {M : Type 1} → statement M
 after-bars-spec =
-    tie.close
-    (tie.spec cast-mul mul-requires or-most-requires add-requires or-most-requires-2 returns)
+    tie.close (tie.spec (λ c. search needs) (λ c κs. search needs) (λ c κs. search needs) (λ c κs. search needs) (λ c κs. search needs) returns)

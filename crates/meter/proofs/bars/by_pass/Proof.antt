@@ -27,23 +27,8 @@ from-start c =
     (λ t. pass map 1 (s .args .bar) (c .unlisted .ensures t) ((s .pre .1 .0 ∙ opening-one map (s .args .default) (s .args .pickup)) t))
     ∙ pass-start map (s .args .default) (s .args .pickup) (s .args .bar) (s .pre .1 .1) (s .pre .0)
 
-unlisted-requires : tie.Need-unlisted-requires Inv-loop μ-loop
-unlisted-requires c κs = search needs
-
 loop-holds : tie.Need-loop-holds Inv-loop μ-loop
 loop-holds c = (omega arith, refl)
-
-add-loop : tie.Need-add-loop Inv-loop μ-loop
-add-loop c = search needs
-
-mul-change : tie.Need-mul-change Inv-loop μ-loop
-mul-change c = search needs
-
-shared-slice-read-change : tie.Need-shared-slice-read-change Inv-loop μ-loop
-shared-slice-read-change c = search needs
-
-up-to-requires : tie.Need-up-to-requires Inv-loop μ-loop
-up-to-requires c κs = search needs
 
 returns : tie.Need-returns Inv-loop μ-loop
 returns c =
@@ -54,36 +39,6 @@ returns c =
     ∙ l .loop .inv .1
     ∙ from-start (l .before)
 
-up-to-requires-2 : tie.Need-up-to-requires-2 Inv-loop μ-loop
-up-to-requires-2 c κs = search needs
-
-larger-requires : tie.Need-larger-requires Inv-loop μ-loop
-larger-requires c κs = search needs
-
-add-t12 : tie.Need-add-t12 Inv-loop μ-loop
-add-t12 c = search needs
-
-mul-t11 : tie.Need-mul-t11 Inv-loop μ-loop
-mul-t11 c = search needs
-
-shared-slice-read-t15 : tie.Need-shared-slice-read-t15 Inv-loop μ-loop
-shared-slice-read-t15 c = search needs
-
-add-t17 : tie.Need-add-t17 Inv-loop μ-loop
-add-t17 c = search needs
-
-mul-t18 : tie.Need-mul-t18 Inv-loop μ-loop
-mul-t18 c = search needs
-
-shared-slice-read-t20 : tie.Need-shared-slice-read-t20 Inv-loop μ-loop
-shared-slice-read-t20 c = search needs
-
-add-i : tie.Need-add-i Inv-loop μ-loop
-add-i c = search needs
-
-loop-less : tie.Need-loop-less Inv-loop μ-loop
-loop-less c = search needs
-
 loop-again : tie.Need-loop-again Inv-loop μ-loop
 loop-again c =
     let u = c .before .before .before in
@@ -93,9 +48,6 @@ loop-again c =
       pass-again _ (l .loop .i) (l .loop .from) (s .args .bar) (l .loop .meter) (l .loop .at) (u .before .before .before .loop-test .taken) _ _ _
           (u .before .if1 .left) (c .before .before .larger .ensures) (u .up-to2 .ensures) (l .loop .inv .1),
     )
-
-up-to-requires-3 : tie.Need-up-to-requires-3 Inv-loop μ-loop
-up-to-requires-3 c κs = search needs
 
 returns-2 : tie.Need-returns-2 Inv-loop μ-loop
 returns-2 c =
@@ -109,26 +61,6 @@ returns-2 c =
 pub by-pass-spec : {M : Type 1} → statement M
 by-pass-spec =
     tie.close
-    (tie.spec
-    Inv-loop
-    μ-loop
-    unlisted-requires
-    loop-holds
-    add-loop
-    mul-change
-    shared-slice-read-change
-    up-to-requires
-    returns
-    up-to-requires-2
-    larger-requires
-    add-t12
-    mul-t11
-    shared-slice-read-t15
-    add-t17
-    mul-t18
-    shared-slice-read-t20
-    add-i
-    loop-less
-    loop-again
-    up-to-requires-3
-    returns-2)
+    (tie.spec Inv-loop μ-loop (λ c κs. search needs) loop-holds (λ c. search needs) (λ c. search needs) (λ c. search needs) (λ c κs. search needs) returns (λ c κs. search needs)
+    (λ c κs. search needs) (λ c. search needs) (λ c. search needs) (λ c. search needs) (λ c. search needs) (λ c. search needs) (λ c. search needs) (λ c. search needs)
+    (λ c. search needs) loop-again (λ c κs. search needs) returns-2)

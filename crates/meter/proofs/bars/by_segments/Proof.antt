@@ -28,20 +28,11 @@ loop-holds c =
       ),
     )
 
-next-change-requires : tie.Need-next-change-requires Inv-loop μ-loop
-next-change-requires c κs = search needs
-
-length-requires : tie.Need-length-requires Inv-loop μ-loop
-length-requires c κs = search needs
-
 sub-after-bars : tie.Need-sub-after-bars Inv-loop μ-loop
 sub-after-bars c =
     let l = c .before .before .before in
     let s = l .before .before in
     omega (arith, c .before .next-change .ensures, next-gt (pointsOf (s .args .words .now)) (l .loop .from) (s .args .bar) (c .before .before .loop-test .taken))
-
-after-bars-requires : tie.Need-after-bars-requires Inv-loop μ-loop
-after-bars-requires c κs = search needs
 
 loop-less : tie.Need-loop-less Inv-loop μ-loop
 loop-less c =
@@ -65,15 +56,4 @@ returns c =
 
 pub by-segments-spec : {M : Type 1} → statement M
 by-segments-spec =
-    tie.close
-    (tie.spec
-    Inv-loop
-    μ-loop
-    loop-holds
-    next-change-requires
-    length-requires
-    sub-after-bars
-    after-bars-requires
-    loop-less
-    loop-again
-    returns)
+    tie.close (tie.spec Inv-loop μ-loop loop-holds (λ c κs. search needs) (λ c κs. search needs) sub-after-bars (λ c κs. search needs) loop-less loop-again returns)

@@ -16,11 +16,9 @@ divides-good den f = sym (ap (λ (t : Bool). t && eqb (64 % den) 0) (lt-ltb 0 de
 returns : tie.Need-returns
 returns c = sym (ap goodDen (c .if1 .taken))
 
-rem-result : tie.Need-rem-result
-rem-result c = search needs
-
 returns-2 : tie.Need-returns-2
 returns-2 c = divides-good _ (c .if1 .left)
 
 pub good-denominator-spec : {M : Type 1} → statement M
-good-denominator-spec = tie.close (tie.spec returns rem-result returns-2)
+good-denominator-spec =
+    tie.close (tie.spec returns (λ c. search needs) returns-2)

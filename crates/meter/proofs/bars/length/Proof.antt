@@ -6,15 +6,6 @@ use Rattle.meter.proofs.Walking.{len-first, len-rest}
 use Rattle.meter.proofs.bars.length.Statement.{statement}
 use Rattle.meter.proofs.bars.length.Tie as tie
 
-meter-requires : tie.Need-meter-requires
-meter-requires c κs = search needs
-
-len-requires : tie.Need-len-requires
-len-requires c κs = search needs
-
-or-requires : tie.Need-or-requires
-or-requires c κs = search needs
-
 returns : tie.Need-returns
 returns c =
     let t = c .before in
@@ -31,4 +22,5 @@ returns-2 c =
     ∙ len-rest _ (s .args .default) (s .args .pickup) (s .args .bar) (c .if1 .left)
 
 pub length-spec : {M : Type 1} → statement M
-length-spec = tie.close (tie.spec meter-requires len-requires or-requires returns returns-2)
+length-spec =
+    tie.close (tie.spec (λ c κs. search needs) (λ c κs. search needs) (λ c κs. search needs) returns returns-2)

@@ -18,24 +18,6 @@ abbrev μ-loop : tie.MeasureT-loop
 loop-holds : tie.Need-loop-holds Inv-loop μ-loop
 loop-holds c = (omega arith, refl)
 
-add-loop : tie.Need-add-loop Inv-loop μ-loop
-add-loop c = search needs
-
-mul-nearer-change : tie.Need-mul-nearer-change Inv-loop μ-loop
-mul-nearer-change c = search needs
-
-shared-slice-read-nearer-change : tie.Need-shared-slice-read-nearer-change Inv-loop μ-loop
-shared-slice-read-nearer-change c = search needs
-
-nearer-change-requires : tie.Need-nearer-change-requires Inv-loop μ-loop
-nearer-change-requires c κs = search needs
-
-add-i : tie.Need-add-i Inv-loop μ-loop
-add-i c = search needs
-
-loop-less : tie.Need-loop-less Inv-loop μ-loop
-loop-less c = search needs
-
 loop-again : tie.Need-loop-again Inv-loop μ-loop
 loop-again c =
     let l = c .before .before .before in
@@ -51,15 +33,5 @@ returns c =
 pub next-change-spec : {M : Type 1} → statement M
 next-change-spec =
     tie.close
-    (tie.spec
-    Inv-loop
-    μ-loop
-    loop-holds
-    add-loop
-    mul-nearer-change
-    shared-slice-read-nearer-change
-    nearer-change-requires
-    add-i
-    loop-less
-    loop-again
+    (tie.spec Inv-loop μ-loop loop-holds (λ c. search needs) (λ c. search needs) (λ c. search needs) (λ c κs. search needs) (λ c. search needs) (λ c. search needs) loop-again
     returns)

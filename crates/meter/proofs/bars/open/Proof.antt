@@ -6,21 +6,6 @@ use Rattle.meter.specs.Starts.{openingOf}
 use Rattle.meter.proofs.bars.open.Statement.{statement}
 use Rattle.meter.proofs.bars.open.Tie as tie
 
-zero-requires : tie.Need-zero-requires
-zero-requires c κs = search needs
-
-length-requires : tie.Need-length-requires
-length-requires c κs = search needs
-
-add-requires : tie.Need-add-requires
-add-requires c κs = search needs
-
-or-most-requires : tie.Need-or-most-requires
-or-most-requires c κs = search needs
-
-ascending-requires : tie.Need-ascending-requires
-ascending-requires c κs = search needs
-
 returns : tie.Need-returns
 unfolding openingOf
 returns c =
@@ -32,11 +17,4 @@ returns c =
 
 pub open-spec : {M : Type 1} → statement M
 open-spec =
-    tie.close
-    (tie.spec
-    zero-requires
-    length-requires
-    add-requires
-    or-most-requires
-    ascending-requires
-    returns)
+    tie.close (tie.spec (λ c κs. search needs) (λ c κs. search needs) (λ c κs. search needs) (λ c κs. search needs) (λ c κs. search needs) returns)

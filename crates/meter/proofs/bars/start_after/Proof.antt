@@ -12,9 +12,6 @@ use Rattle.meter.proofs.Walking.{start-zero, opening-ascending}
 use Rattle.meter.proofs.bars.start_after.Statement.{statement}
 use Rattle.meter.proofs.bars.start_after.Tie as tie
 
-zero-requires : tie.Need-zero-requires
-zero-requires c κs = search needs
-
 returns : tie.Need-returns
 returns c =
     let s = c .before .before .before .before .before in
@@ -43,13 +40,6 @@ by-pass-requires c κs =
 by-segments-requires : tie.Need-by-segments-requires
 by-segments-requires c κs = (omega arith, anew (c .before))
 
-returns-2 : tie.Need-returns-2
-returns-2 c = search needs
-
-returns-3 : tie.Need-returns-3
-returns-3 c = search needs
-
 pub start-after-spec : {M : Type 1} → statement M
 start-after-spec =
-    tie.close
-    (tie.spec zero-requires returns by-pass-requires by-segments-requires returns-2 returns-3)
+    tie.close (tie.spec (λ c κs. search needs) returns by-pass-requires by-segments-requires (λ c. search needs) (λ c. search needs))

@@ -8,15 +8,6 @@ use Rattle.meter.proofs.Walking.{ending-bars, ending-none}
 use Rattle.meter.proofs.bars.up_to.Statement.{statement}
 use Rattle.meter.proofs.bars.up_to.Tie as tie
 
-len-requires : tie.Need-len-requires
-len-requires c κs = search needs
-
-sub-after-bars : tie.Need-sub-after-bars
-sub-after-bars c = search needs
-
-after-bars-requires : tie.Need-after-bars-requires
-after-bars-requires c κs = search needs
-
 returns : tie.Need-returns
 returns c =
     let s = c .before .before .before in
@@ -30,4 +21,5 @@ returns-2 c =
     sym (ending-none (s .args .bar) (s .args .end) (s .args .meter) (s .args .at) (c .if1 .left))
 
 pub up-to-spec : {M : Type 1} → statement M
-up-to-spec = tie.close (tie.spec len-requires sub-after-bars after-bars-requires returns returns-2)
+up-to-spec =
+    tie.close (tie.spec (λ c κs. search needs) (λ c. search needs) (λ c κs. search needs) returns returns-2)

@@ -14,31 +14,10 @@ use Rattle.meter.proofs.count.elapsed.Tie as tie
 tested : (c : tie.After-below) → let s = c .before .before .before in c .below .result ≡ belowBeat zeroBeat (s .args .beat)
 tested c = let s = c .before .before .before in c .below .ensures ∙ ap (λ (zero : Beat). belowBeat zero (s .args .beat)) (c .before .zero .ensures)
 
-zero-requires : tie.Need-zero-requires
-zero-requires c κs = search needs
-
-below-requires : tie.Need-below-requires
-below-requires c κs = search needs
-
 returns : tie.Need-returns
 returns c =
     let s = c .before .before .before .before in
     sym (count-zero (pointsOf (s .args .words .now)) (s .args .default) (s .args .pickup) (s .args .beat) (sym (tested (c .before)) ∙ not-true _ (c .if1 .taken)))
-
-open-requires : tie.Need-open-requires
-open-requires c κs = search needs
-
-upper-bar-requires : tie.Need-upper-bar-requires
-upper-bar-requires c κs = search needs
-
-enum-known-hi : tie.Need-enum-known-hi
-enum-known-hi c = search needs
-
-first-bar-requires : tie.Need-first-bar-requires
-first-bar-requires c κs = search needs
-
-enum-told : tie.Need-enum-told
-enum-told c = search needs
 
 returns-2 : tie.Need-returns-2
 returns-2 c =
@@ -59,14 +38,5 @@ returns-3 c =
 pub elapsed-spec : {M : Type 1} → statement M
 elapsed-spec =
     tie.close
-    (tie.spec
-    zero-requires
-    below-requires
-    returns
-    open-requires
-    upper-bar-requires
-    enum-known-hi
-    first-bar-requires
-    enum-told
-    returns-2
-    returns-3)
+    (tie.spec (λ c κs. search needs) (λ c κs. search needs) returns (λ c κs. search needs) (λ c κs. search needs) (λ c. search needs) (λ c κs. search needs) (λ c. search needs)
+    returns-2 returns-3)

@@ -8,12 +8,6 @@ use Rattle.meter.specs.Counts.{reaches}
 use Rattle.meter.proofs.count.reaches_beat.Statement.{statement}
 use Rattle.meter.proofs.count.reaches_beat.Tie as tie
 
-start-after-requires : tie.Need-start-after-requires
-start-after-requires c κs = search needs
-
-below-requires : tie.Need-below-requires
-below-requires c κs = search needs
-
 returns : tie.Need-returns
 unfolding reaches
 returns c =
@@ -21,4 +15,5 @@ returns c =
     ap not (c .below .ensures ∙ ap (λ (start : Beat). belowBeat start (s .args .beat)) (c .before .start-after .ensures))
 
 pub reaches-beat-spec : {M : Type 1} → statement M
-reaches-beat-spec = tie.close (tie.spec start-after-requires below-requires returns)
+reaches-beat-spec =
+    tie.close (tie.spec (λ c κs. search needs) (λ c κs. search needs) returns)

@@ -18,12 +18,6 @@ abbrev μ-loop : tie.MeasureT-loop
 loop-holds : tie.Need-loop-holds Inv-loop μ-loop
 loop-holds c = let s = c .before in doubled-first (reaches (pointsOf (s .args .words .now)) (s .args .default) (s .args .pickup) (s .args .beat))
 
-reaches-beat-requires : tie.Need-reaches-beat-requires Inv-loop μ-loop
-reaches-beat-requires c κs = search needs
-
-mul-hi : tie.Need-mul-hi Inv-loop μ-loop
-mul-hi c = omega arith
-
 loop-less : tie.Need-loop-less Inv-loop μ-loop
 loop-less c =
     let l = c .before .before .before in
@@ -50,14 +44,4 @@ returns-2 c =
 
 pub upper-bar-spec : {M : Type 1} → statement M
 upper-bar-spec =
-    tie.close
-    (tie.spec
-    Inv-loop
-    μ-loop
-    loop-holds
-    reaches-beat-requires
-    mul-hi
-    loop-less
-    loop-again
-    returns
-    returns-2)
+    tie.close (tie.spec Inv-loop μ-loop loop-holds (λ c κs. search needs) (λ c. omega arith) loop-less loop-again returns returns-2)

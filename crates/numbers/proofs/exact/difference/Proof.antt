@@ -13,9 +13,6 @@ use borrow.Author.Needs.{needs}
 use Rattle.numbers.proofs.exact.difference.Statement.{statement}
 use Rattle.numbers.proofs.exact.difference.Tie as tie
 
-below-requires : tie.Need-below-requires
-below-requires c κs = search needs
-
 -- the test of `below`, as the order of the numbers
 p-below : (c : tie.Then1) → sizeOf (c .before .before .args .p) < sizeOf (c .before .before .args .q)
 p-below c = ltb-true _ _ (sym (c .before .below .ensures) ∙ c .if1 .taken)
@@ -26,14 +23,8 @@ q-le c = ltb-false _ _ (sym (c .before .below .ensures) ∙ c .if1 .left)
 less-requires : tie.Need-less-requires
 less-requires c κs = le-of-lt (p-below c)
 
-new-requires : tie.Need-new-requires
-new-requires c κs = search needs
-
 less-requires-2 : tie.Need-less-requires-2
 less-requires-2 c κs = q-le c
-
-new-requires-2 : tie.Need-new-requires-2
-new-requires-2 c κs = search needs
 
 returns : tie.Need-returns
 returns c =
@@ -47,12 +38,4 @@ returns-2 c =
 
 pub difference-spec : {M : Type 1} → statement M
 difference-spec =
-    tie.close
-    (tie.spec
-    below-requires
-    less-requires
-    new-requires
-    less-requires-2
-    new-requires-2
-    returns
-    returns-2)
+    tie.close (tie.spec (λ c κs. search needs) less-requires (λ c κs. search needs) less-requires-2 (λ c κs. search needs) returns returns-2)

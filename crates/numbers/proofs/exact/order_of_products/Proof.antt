@@ -11,12 +11,6 @@ use Rattle.numbers.proofs.Orders.{is-less, is-greater, is-equal}
 use Rattle.numbers.proofs.exact.order_of_products.Statement.{statement}
 use Rattle.numbers.proofs.exact.order_of_products.Tie as tie
 
-times-requires : tie.Need-times-requires
-times-requires c κs = search needs
-
-times-requires-2 : tie.Need-times-requires-2
-times-requires-2 c κs = search needs
-
 -- the two products
 first : (c : tie.After-times) → c .times .result ≡ exactOf (c .before .args .a *ℤ pos (c .before .args .b))
 first c = let s = c .before in c .times .ensures ∙ ap (λ (z : ℤ). exactOf (z *ℤ pos (s .args .b))) (toZ-ofZ w64 (s .args .a) (s .fits .a))
@@ -56,12 +50,4 @@ returns-3 c =
 
 pub order-of-products-spec : {M : Type 1} → statement M
 order-of-products-spec =
-    tie.close
-    (tie.spec
-    times-requires
-    times-requires-2
-    below-requires
-    below-requires-2
-    returns
-    returns-2
-    returns-3)
+    tie.close (tie.spec (λ c κs. search needs) (λ c κs. search needs) below-requires below-requires-2 returns returns-2 returns-3)

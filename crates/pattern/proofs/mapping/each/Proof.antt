@@ -27,9 +27,6 @@ made c = map (changed (start c .args .how)) (notesOf (start c .args .words .now)
 count : (c : tie.Else1) → length (made c) ≡ length (start c .args .words .now) / 4
 count c = simp (length-map, length-notes)
 
-refusal-of-one-requires : tie.Need-refusal-of-one-requires
-refusal-of-one-requires c κs = search needs
-
 by-number-requires : tie.Need-by-number-requires
 by-number-requires c κs = refusal-of-one-is (c .before .refusal-of-one .result) (c .if1 .taken) (length (c .before .before .before .before .args .words .now)) (c .before .refusal-of-one .ensures)
 
@@ -48,12 +45,6 @@ copy-requires c κs =
     let w = whole t in
     (start t .pre, w .even, omega arith)
 
-wrote-requires : tie.Need-wrote-requires
-wrote-requires c κs = search needs
-
-same-length : tie.Need-same-length
-same-length c = search needs
-
 returns-3 : tie.Need-returns-3
 returns-3 c =
     let p = c .before .before .before in
@@ -67,13 +58,4 @@ returns-3 c =
 
 pub each-spec : {M : Type 1} → statement M
 each-spec =
-    tie.close
-    (tie.spec
-    refusal-of-one-requires
-    by-number-requires
-    returns
-    returns-2
-    copy-requires
-    wrote-requires
-    same-length
-    returns-3)
+    tie.close (tie.spec (λ c κs. search needs) by-number-requires returns returns-2 copy-requires (λ c κs. search needs) (λ c. search needs) returns-3)

@@ -29,9 +29,6 @@ made c = map (changed (start c .args .how)) (notesOf (start c .args .words .now)
 count : (c : tie.Else1) → length (made c) ≡ length (start c .args .words .now) / 4
 count c = simp (length-map, length-notes)
 
-refusal-of-one-requires : tie.Need-refusal-of-one-requires
-refusal-of-one-requires c κs = search needs
-
 by-number-requires : tie.Need-by-number-requires
 by-number-requires c κs = refusal-of-one-is (c .before .refusal-of-one .result) (c .if1 .taken) (length (c .before .before .before .before .args .words .now)) (c .before .refusal-of-one .ensures)
 
@@ -50,9 +47,6 @@ copy-requires c κs =
     let w = whole t in
     (start t .pre, w .even, omega arith)
 
-slice-relend-prefix-sort-by-step : tie.Need-slice-relend-prefix-sort-by-step
-slice-relend-prefix-sort-by-step c = search needs
-
 slice-aggregate-sort-by-step : tie.Need-slice-aggregate-sort-by-step
 slice-aggregate-sort-by-step c =
     let p = c .before .before .before in
@@ -67,12 +61,6 @@ sort-by-step-requires c κs =
     let a = start t .args in
     let l = length-take-le (length (a .words .now)) (p .copy .last .1 .1 .0) (omega arith) in
     omega (arith, l)
-
-wrote-requires : tie.Need-wrote-requires
-wrote-requires c κs = search needs
-
-same-length : tie.Need-same-length
-same-length c = search needs
 
 returns-3 : tie.Need-returns-3
 returns-3 c =
@@ -93,15 +81,5 @@ returns-3 c =
 pub each-sorted-spec : {M : Type 1} → statement M
 each-sorted-spec =
     tie.close
-    (tie.spec
-    refusal-of-one-requires
-    by-number-requires
-    returns
-    returns-2
-    copy-requires
-    slice-relend-prefix-sort-by-step
-    slice-aggregate-sort-by-step
-    sort-by-step-requires
-    wrote-requires
-    same-length
-    returns-3)
+    (tie.spec (λ c κs. search needs) by-number-requires returns returns-2 copy-requires (λ c. search needs) slice-aggregate-sort-by-step sort-by-step-requires
+    (λ c κs. search needs) (λ c. search needs) returns-3)

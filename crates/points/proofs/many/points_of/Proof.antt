@@ -15,23 +15,8 @@ abbrev μ-loop : tie.MeasureT-loop
 loop-holds : tie.Need-loop-holds Inv-loop μ-loop
 loop-holds c = (none _ _, omega arith)
 
-mul-point-at : tie.Need-mul-point-at Inv-loop μ-loop
-mul-point-at c = search needs
-
 point-at-requires : tie.Need-point-at-requires Inv-loop μ-loop
 point-at-requires c κs = omega (arith, c .loop-test .taken)
-
-mul-points : tie.Need-mul-points Inv-loop μ-loop
-mul-points c = search needs
-
-array-set-from-points : tie.Need-array-set-from-points Inv-loop μ-loop
-array-set-from-points c = search needs
-
-add-k : tie.Need-add-k Inv-loop μ-loop
-add-k c = search needs
-
-loop-less : tie.Need-loop-less Inv-loop μ-loop
-loop-less c = search needs
 
 loop-again : tie.Need-loop-again Inv-loop μ-loop
 loop-again c =
@@ -45,15 +30,4 @@ returns c = let l = c .before .loop in all _ _ (l .points) (l .k) (l .inv .0) (l
 pub points-of-spec : {M : Type 1} → statement M
 points-of-spec =
     tie.close
-    (tie.spec
-    Inv-loop
-    μ-loop
-    loop-holds
-    mul-point-at
-    point-at-requires
-    mul-points
-    array-set-from-points
-    add-k
-    loop-less
-    loop-again
-    returns)
+    (tie.spec Inv-loop μ-loop loop-holds (λ c. search needs) point-at-requires (λ c. search needs) (λ c. search needs) (λ c. search needs) (λ c. search needs) loop-again returns)

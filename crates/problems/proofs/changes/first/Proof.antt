@@ -21,9 +21,6 @@ note-requires : tie.Need-note-requires
 unfolding tempoFirst
 note-requires c κs = let s = c .before .before in ready-first (many s) (late s ++ bits s) (s .pre)
 
-is-zero-requires : tie.Need-is-zero-requires
-is-zero-requires c κs = search needs
-
 note-requires-2 : tie.Need-note-requires-2
 unfolding tempoFirst
 note-requires-2 c κs =
@@ -39,9 +36,6 @@ own-requires c κs =
     let s = noted .before .before .before in
     ready-then (late s) (bits s) (ready-then (many s) (late s ++ bits s) (s .pre) (noted .note .ensures)) (rw (again .before .before .is-zero .ensures) at (again .note2 .ensures))
 
-same-length : tie.Need-same-length
-same-length c = search needs
-
 returns : tie.Need-returns
 unfolding tempoFirst
 returns c =
@@ -53,4 +47,5 @@ returns c =
     (passed-then (late s) (bits s) (rw (again .before .before .is-zero .ensures) at (again .note2 .ensures)) (called .own .ensures))
 
 pub first-spec : {M : Type 1} → statement M
-first-spec = tie.close (tie.spec note-requires is-zero-requires note-requires-2 own-requires same-length returns)
+first-spec =
+    tie.close (tie.spec note-requires (λ c κs. search needs) note-requires-2 own-requires (λ c. search needs) returns)

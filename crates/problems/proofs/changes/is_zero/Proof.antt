@@ -9,13 +9,11 @@ use borrow.Author.Needs.{needs}
 use Rattle.problems.proofs.changes.is_zero.Statement.{statement}
 use Rattle.problems.proofs.changes.is_zero.Tie as tie
 
-magnitude-requires : tie.Need-magnitude-requires
-magnitude-requires c κs = search needs
-
 returns : tie.Need-returns
 returns c =
     let told = c .before in
     ap (λ (n : ℕ). eqb n 0) (c .magnitude .ensures ∙ ap natAbs (toZ-ofZ w64 (told .before .args .at .num) (record { sfits = told .struct-told .given .0 .1 })))
 
 pub is-zero-spec : {M : Type 1} → statement M
-is-zero-spec = tie.close (tie.spec magnitude-requires returns)
+is-zero-spec =
+    tie.close (tie.spec (λ c κs. search needs) returns)

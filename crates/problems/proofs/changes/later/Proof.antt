@@ -7,9 +7,6 @@ use Rattle.problems.proofs.Passing.{ready-first, ready-then, passed-the
 use Rattle.problems.proofs.changes.later.Statement.{statement}
 use Rattle.problems.proofs.changes.later.Tie as tie
 
-below-requires : tie.Need-below-requires
-below-requires c κs = search needs
-
 own-requires : tie.Need-own-requires
 unfolding tempoLater
 own-requires c κs =
@@ -28,9 +25,6 @@ note-requires c κs =
     let y = notAbove (a .index) (a .before) (a .at) in
     rw (c .before .before .before .before .before .below .ensures) (ready-then x y (s .pre) (c .before .before .before .own .ensures))
 
-same-length : tie.Need-same-length
-same-length c = search needs
-
 returns : tie.Need-returns
 unfolding tempoLater
 returns c =
@@ -41,4 +35,5 @@ returns c =
     passed-then x y (c .before .before .before .before .before .before .own .ensures) (rw (c .before .before .before .before .before .before .before .before .below .ensures) at (c .before .before .note .ensures))
 
 pub later-spec : {M : Type 1} → statement M
-later-spec = tie.close (tie.spec below-requires own-requires note-requires same-length returns)
+later-spec =
+    tie.close (tie.spec (λ c κs. search needs) own-requires note-requires (λ c. search needs) returns)

@@ -23,24 +23,12 @@ found s = tempoProblems (listed (s .args .nums .now) (s .args .dens .now) (s .ar
 pass-requires : tie.Need-pass-requires
 pass-requires c κs = let s = c .before .before .before .before in (s .pre, ready false (s .args .out .now) (found s) (few _ _ _ (s .pre)) never)
 
-cast-if1 : tie.Need-cast-if1
-cast-if1 c = search needs
-
-same-length : tie.Need-same-length
-same-length c = search needs
-
 returns : tie.Need-returns
 returns c =
     let s = c .before .before .before .before .before .before .before .before in
     let said = counts (c .before .before .before .pass .ensures) in
     let many = too-many (found s) (s .args .out .now) (omega (arith, c .if1 .taken, said .0, ap length (said .1))) in
     (many .0, said .1 ∙ many .1)
-
-pass-requires-2 : tie.Need-pass-requires-2
-pass-requires-2 c κs = search needs
-
-same-length-2 : tie.Need-same-length-2
-same-length-2 c = search needs
 
 returns-2 : tie.Need-returns-2
 returns-2 c =
@@ -51,4 +39,5 @@ returns-2 c =
     (ap accepted (wrote .counted ∙ zero-add (length (found s))) ∙ fit .0, wrote .words ∙ ap (λ (l : List ℕ). put true l 0 (found s)) (said .1) ∙ fit .1)
 
 pub list-spec : {M : Type 1} → statement M
-list-spec = tie.close (tie.spec pass-requires cast-if1 same-length returns pass-requires-2 same-length-2 returns-2)
+list-spec =
+    tie.close (tie.spec pass-requires (λ c. search needs) (λ c. search needs) returns (λ c κs. search needs) (λ c. search needs) returns-2)

@@ -4,19 +4,14 @@ use Rattle.problems.specs.Problems.{tempoBits}
 use Rattle.problems.proofs.changes.own.Statement.{statement}
 use Rattle.problems.proofs.changes.own.Tie as tie
 
-sound-tempo-requires : tie.Need-sound-tempo-requires
-sound-tempo-requires c κs = search needs
-
 note-requires : tie.Need-note-requires
 unfolding tempoBits
 note-requires c κs = rw (c .before .sound-tempo .ensures) (c .before .before .before .pre)
-
-same-length : tie.Need-same-length
-same-length c = search needs
 
 returns : tie.Need-returns
 unfolding tempoBits
 returns c = rw (c .before .before .before .before .sound-tempo .ensures) at (c .before .before .note .ensures)
 
 pub own-spec : {M : Type 1} → statement M
-own-spec = tie.close (tie.spec sound-tempo-requires note-requires same-length returns)
+own-spec =
+    tie.close (tie.spec (λ c κs. search needs) note-requires (λ c. search needs) returns)

@@ -18,28 +18,10 @@ Inv-loop nums dens tempos out₀ writing n before₀ count₀ i₀ out before co
 abbrev μ-loop : tie.MeasureT-loop
 μ-loop nums dens tempos out₀ writing n before₀ count₀ i₀ out before count i = n - i
 
-zero-requires : tie.Need-zero-requires Inv-loop μ-loop
-zero-requires c κs = search needs
-
 loop-holds : tie.Need-loop-holds Inv-loop μ-loop
 loop-holds c =
     let s = c .before .before .before .before in
     (s .pre .0, refl, omega arith, s .pre .1, begin (tempo-all (s .args .nums .now) (s .args .dens .now) (s .args .tempos .now) (s .pre .0) (c .zero .result)))
-
-beat-at-requires : tie.Need-beat-at-requires Inv-loop μ-loop
-beat-at-requires c κs = search needs
-
-cast-point : tie.Need-cast-point Inv-loop μ-loop
-cast-point c = omega arith
-
-cast-point-2 : tie.Need-cast-point-2 Inv-loop μ-loop
-cast-point-2 c = omega arith
-
-mul-point : tie.Need-mul-point Inv-loop μ-loop
-mul-point c = omega arith
-
-shared-slice-read-point : tie.Need-shared-slice-read-point Inv-loop μ-loop
-shared-slice-read-point c = omega arith
 
 point-requires : tie.Need-point-requires Inv-loop μ-loop
 point-requires c κs =
@@ -51,12 +33,6 @@ point-requires c κs =
     let now = tempoAt (length nums) (l .i) (l .before) (listedPoint nums dens tempos (l .i)) in
     let rest = tempoFrom (length nums) (l .i + 1) (beatAt nums dens (l .i)) (drop (l .i + 1) (listed nums dens tempos)) in
     rw (c .before .before .beat-at .ensures) (ready-next now rest (tempo-next nums dens tempos (l .inv .0) (length nums) (l .i) (l .before) (c .before .before .before .loop-test .taken)) (l .inv .4) (l .inv .3))
-
-add-i : tie.Need-add-i Inv-loop μ-loop
-add-i c = omega arith
-
-loop-less : tie.Need-loop-less Inv-loop μ-loop
-loop-less c = omega arith
 
 loop-again : tie.Need-loop-again Inv-loop μ-loop
 loop-again c =
@@ -86,19 +62,5 @@ returns c =
 pub pass-spec : {M : Type 1} → statement M
 pass-spec =
     tie.close
-    (tie.spec
-    Inv-loop
-    μ-loop
-    zero-requires
-    loop-holds
-    beat-at-requires
-    cast-point
-    cast-point-2
-    mul-point
-    shared-slice-read-point
-    point-requires
-    add-i
-    loop-less
-    loop-again
-    same-length
-    returns)
+    (tie.spec Inv-loop μ-loop (λ c κs. search needs) loop-holds (λ c κs. search needs) (λ c. omega arith) (λ c. omega arith) (λ c. omega arith) (λ c. omega arith) point-requires
+    (λ c. omega arith) (λ c. omega arith) loop-again same-length returns)

@@ -11,18 +11,12 @@ first-requires c κs = let a = c .before .before .before .args in rw (tempo-firs
 later-requires : tie.Need-later-requires
 later-requires c κs = let a = c .before .before .before .args in rw (tempo-later (a .n) (a .index) (a .before) (listedAt (a .at) (a .bits)) (c .before .if1 .left)) at (c .before .before .before .pre)
 
-same-length : tie.Need-same-length
-same-length c = search needs
-
 returns : tie.Need-returns
 returns c = let a = c .before .before .before .before .before .before .args in rw (tempo-first (a .n) (a .index) (a .before) (listedAt (a .at) (a .bits)) (c .before .before .before .before .if1 .taken)) (c .before .before .first .ensures)
-
-same-length-2 : tie.Need-same-length-2
-same-length-2 c = search needs
 
 returns-2 : tie.Need-returns-2
 returns-2 c = let a = c .before .before .before .before .before .before .args in rw (tempo-later (a .n) (a .index) (a .before) (listedAt (a .at) (a .bits)) (c .before .before .before .before .if1 .left)) (c .before .before .later .ensures)
 
 pub point-spec : {M : Type 1} → statement M
 point-spec =
-    tie.close (tie.spec first-requires later-requires same-length returns same-length-2 returns-2)
+    tie.close (tie.spec first-requires later-requires (λ c. search needs) returns (λ c. search needs) returns-2)

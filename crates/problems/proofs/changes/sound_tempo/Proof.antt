@@ -6,9 +6,6 @@ use borrow.Author.Needs.{needs}
 use Rattle.problems.proofs.changes.sound_tempo.Statement.{statement}
 use Rattle.problems.proofs.changes.sound_tempo.Tie as tie
 
-f32-of-requires : tie.Need-f32-of-requires
-f32-of-requires c κs = search needs
-
 returns : tie.Need-returns
 returns c = above-zero _ (c .if1 .taken) ∙ ap soundTempo (c .before .f32-of .ensures)
 
@@ -16,4 +13,5 @@ returns-2 : tie.Need-returns-2
 returns-2 c = not-above _ (c .if1 .left) ∙ ap soundTempo (c .before .f32-of .ensures)
 
 pub sound-tempo-spec : {M : Type 1} → statement M
-sound-tempo-spec = tie.close (tie.spec f32-of-requires returns returns-2)
+sound-tempo-spec =
+    tie.close (tie.spec (λ c κs. search needs) returns returns-2)

@@ -22,9 +22,6 @@ add-result c =
     let s = e .before .before in
     record { fits = omega (arith, ready-one (s .args .code) (s .args .index) (s .args .value) (s .args .found) (not-false (s .args .found) (e .if1 .left)) (s .pre) .0) }
 
-same-length : tie.Need-same-length
-same-length c = search needs
-
 returns-2 : tie.Need-returns-2
 returns-2 c =
     let e = c .before .before .before .before in
@@ -32,4 +29,5 @@ returns-2 c =
     one (a .code) (a .index) (a .value) (a .found) (not-false (a .found) (e .if1 .left)) (c .before .before .put .ensures)
 
 pub note-spec : {M : Type 1} → statement M
-note-spec = tie.close (tie.spec returns put-requires add-result same-length returns-2)
+note-spec =
+    tie.close (tie.spec returns put-requires add-result (λ c. search needs) returns-2)

@@ -11,35 +11,14 @@ use Rattle.problems.proofs.records.put.Tie as tie
 returns : tie.Need-returns
 returns c = rw (not-true (c .before .args .writing) (c .if1 .taken))
 
-mul-at : tie.Need-mul-at
-mul-at c = search needs
-
-mul-out : tie.Need-mul-out
-mul-out c = search needs
-
 slice-write-out : tie.Need-slice-write-out
 slice-write-out c = omega (arith, c .before .pre (not-false _ (c .if1 .left)))
-
-add-out : tie.Need-add-out
-add-out c = search needs
-
-mul-out-2 : tie.Need-mul-out-2
-mul-out-2 c = search needs
 
 slice-write-out-2 : tie.Need-slice-write-out-2
 slice-write-out-2 c = simp length-set (omega (arith, c .before .pre (not-false _ (c .if1 .left))))
 
-add-out-2 : tie.Need-add-out-2
-add-out-2 c = search needs
-
-mul-out-3 : tie.Need-mul-out-3
-mul-out-3 c = search needs
-
 slice-write-out-3 : tie.Need-slice-write-out-3
 slice-write-out-3 c = simp length-set (omega (arith, c .before .pre (not-false _ (c .if1 .left))))
-
-same-length : tie.Need-same-length
-same-length c = search needs
 
 returns-2 : tie.Need-returns-2
 returns-2 c = rw (not-false (c .before .args .writing) (c .if1 .left), mul-comm (c .before .args .count) 3, add-one, add-two)
@@ -47,16 +26,5 @@ returns-2 c = rw (not-false (c .before .args .writing) (c .if1 .left), mul-comm 
 pub put-spec : {M : Type 1} → statement M
 put-spec =
     tie.close
-    (tie.spec
-    returns
-    mul-at
-    mul-out
-    slice-write-out
-    add-out
-    mul-out-2
-    slice-write-out-2
-    add-out-2
-    mul-out-3
-    slice-write-out-3
-    same-length
-    returns-2)
+    (tie.spec returns (λ c. search needs) (λ c. search needs) slice-write-out (λ c. search needs) (λ c. search needs) slice-write-out-2 (λ c. search needs) (λ c. search needs)
+    slice-write-out-3 (λ c. search needs) returns-2)

@@ -26,9 +26,6 @@ note-requires-2 c κs =
     let y = laterBar (a .bar) in
     ready-then x y (rw (head-first (a .n) (a .index) (a .bar) (c .before .before .before .before .before .if1 .left)) at (s .pre)) (c .before .before .before .note .ensures)
 
-same-length : tie.Need-same-length
-same-length c = search needs
-
 returns-2 : tie.Need-returns-2
 returns-2 c =
     let s = c .before .before .before .before .before .before .before .before .before .before in
@@ -38,4 +35,5 @@ returns-2 c =
     rw (head-first (a .n) (a .index) (a .bar) (c .before .before .before .before .before .before .before .before .if1 .left)) (passed-then x y (c .before .before .before .before .before .before .note .ensures) (c .before .before .note2 .ensures))
 
 pub head-spec : {M : Type 1} → statement M
-head-spec = tie.close (tie.spec returns note-requires note-requires-2 same-length returns-2)
+head-spec =
+    tie.close (tie.spec returns note-requires note-requires-2 (λ c. search needs) returns-2)

@@ -19,9 +19,6 @@ note-requires c κs =
     let z = problemIf (ltb (a .bar) (a .low)) 5 (a .index) 0 in
     ready-first x (y ++ z) (s .pre)
 
-good-denominator-requires : tie.Need-good-denominator-requires
-good-denominator-requires c κs = search needs
-
 note-requires-2 : tie.Need-note-requires-2
 unfolding meterPoint
 note-requires-2 c κs =
@@ -42,9 +39,6 @@ note-requires-3 c κs =
     let z = problemIf (ltb (a .bar) (a .low)) 5 (a .index) 0 in
     ready-then y z (ready-then x (y ++ z) (s .pre) (c .before .before .before .before .before .before .before .before .note .ensures)) (rw (c .before .before .before .before .before .good-denominator .ensures) at (c .before .before .before .note2 .ensures))
 
-same-length : tie.Need-same-length
-same-length c = search needs
-
 returns : tie.Need-returns
 unfolding meterPoint
 returns c =
@@ -57,11 +51,4 @@ returns c =
 
 pub own-spec : {M : Type 1} → statement M
 own-spec =
-    tie.close
-    (tie.spec
-    note-requires
-    good-denominator-requires
-    note-requires-2
-    note-requires-3
-    same-length
-    returns)
+    tie.close (tie.spec note-requires (λ c κs. search needs) note-requires-2 note-requires-3 (λ c. search needs) returns)

@@ -24,9 +24,6 @@ own-requires c κs =
     let y = meterPoint (a .index) (a .s .low) (pointOf (a .bar) (a .numerator) (a .denominator)) in
     ready-then x y (s .pre) (c .before .before .before .head .ensures)
 
-same-length : tie.Need-same-length
-same-length c = search needs
-
 returns : tie.Need-returns
 unfolding recordsAt
 returns c =
@@ -37,4 +34,5 @@ returns c =
     passed-then x y (c .before .before .before .before .before .before .head .ensures) (c .before .before .own .ensures)
 
 pub records-at-spec : {M : Type 1} → statement M
-records-at-spec = tie.close (tie.spec head-requires own-requires same-length returns)
+records-at-spec =
+    tie.close (tie.spec head-requires own-requires (λ c. search needs) returns)

@@ -5,9 +5,6 @@ use borrow.Author.Tests.{eq-eqb, ne-eqb}
 use Rattle.problems.proofs.walk.restart.Statement.{statement}
 use Rattle.problems.proofs.walk.restart.Tie as tie
 
-add-if1 : tie.Need-add-if1
-add-if1 c = search needs
-
 returns : tie.Need-returns
 returns c =
     let s = c .before .before .before .before .before .before .args .s in
@@ -24,4 +21,5 @@ returns-3 c =
     rw (ne-eqb (s .at + 1) (s .n) (c .if1 .left))
 
 pub restart-spec : {M : Type 1} → statement M
-restart-spec = tie.close (tie.spec add-if1 returns returns-2 returns-3)
+restart-spec =
+    tie.close (tie.spec (λ c. search needs) returns returns-2 returns-3)

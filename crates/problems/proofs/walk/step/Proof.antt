@@ -6,21 +6,6 @@ use Rattle.problems.specs.Passes.{turned}
 use Rattle.problems.proofs.walk.step.Statement.{statement}
 use Rattle.problems.proofs.walk.step.Tie as tie
 
-cast-n : tie.Need-cast-n
-cast-n c = search needs
-
-cast-index : tie.Need-cast-index
-cast-index c = search needs
-
-records-at-requires : tie.Need-records-at-requires
-records-at-requires c κs = search needs
-
-turn-requires : tie.Need-turn-requires
-turn-requires c κs = search needs
-
-same-length : tie.Need-same-length
-same-length c = search needs
-
 returns : tie.Need-returns
 returns c =
     let s = c .before .before .before .before .before .before .before .before .args in
@@ -29,4 +14,4 @@ returns c =
 
 pub step-spec : {M : Type 1} → statement M
 step-spec =
-    tie.close (tie.spec cast-n cast-index records-at-requires turn-requires same-length returns)
+    tie.close (tie.spec (λ c. search needs) (λ c. search needs) (λ c κs. search needs) (λ c κs. search needs) (λ c. search needs) returns)

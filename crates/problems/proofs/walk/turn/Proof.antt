@@ -4,20 +4,12 @@ use mathlib.Core.Path.{sym, _∙_}
 use Rattle.problems.proofs.walk.turn.Statement.{statement}
 use Rattle.problems.proofs.walk.turn.Tie as tie
 
-restart-requires : tie.Need-restart-requires
-restart-requires c κs = search needs
-
 returns : tie.Need-returns
 returns c = rw (sym (c .before .restart .ensures) ∙ c .if1 .taken)
-
-add-t5 : tie.Need-add-t5
-add-t5 c = search needs
-
-add-t7 : tie.Need-add-t7
-add-t7 c = search needs
 
 returns-2 : tie.Need-returns-2
 returns-2 c = rw (sym (c .before .before .restart .ensures) ∙ c .before .if1 .left)
 
 pub turn-spec : {M : Type 1} → statement M
-turn-spec = tie.close (tie.spec restart-requires returns add-t5 add-t7 returns-2)
+turn-spec =
+    tie.close (tie.spec (λ c κs. search needs) returns (λ c. search needs) (λ c. search needs) returns-2)

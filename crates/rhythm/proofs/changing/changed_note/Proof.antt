@@ -12,59 +12,8 @@ use Rattle.rhythm.specs.Values.{rotatedStep}
 use Rattle.rhythm.proofs.changing.changed_note.Tie as tie
 use Rattle.rhythm.proofs.changing.changed_note.Statement.{statement}
 
-enum-known-how : tie.Need-enum-known-how
-enum-known-how c = search needs
-
-later-requires : tie.Need-later-requires
-later-requires c κs = search needs
-
-at-requires : tie.Need-at-requires
-at-requires c κs = search needs
-
-enum-known-how-2 : tie.Need-enum-known-how-2
-enum-known-how-2 c = search needs
-
 stretched-requires : tie.Need-stretched-requires
 stretched-requires c κs = rw (c .before .how2 .given .1) at (c .before .before .before .pre)
-
-enum-known-how-3 : tie.Need-enum-known-how-3
-enum-known-how-3 c = search needs
-
-rotated-requires : tie.Need-rotated-requires
-rotated-requires c κs = search needs
-
-at-requires-2 : tie.Need-at-requires-2
-at-requires-2 c κs = search needs
-
-enum-known-how-4 : tie.Need-enum-known-how-4
-enum-known-how-4 c = search needs
-
-mirrored-requires : tie.Need-mirrored-requires
-mirrored-requires c κs = search needs
-
-at-requires-3 : tie.Need-at-requires-3
-at-requires-3 c κs = search needs
-
-enum-known-how-5 : tie.Need-enum-known-how-5
-enum-known-how-5 c = search needs
-
-snapped-requires : tie.Need-snapped-requires
-snapped-requires c κs = search needs
-
-at-requires-4 : tie.Need-at-requires-4
-at-requires-4 c κs = search needs
-
-enum-known-how-6 : tie.Need-enum-known-how-6
-enum-known-how-6 c = search needs
-
-scaled-requires : tie.Need-scaled-requires
-scaled-requires c κs = search needs
-
-enum-known-how-7 : tie.Need-enum-known-how-7
-enum-known-how-7 c = search needs
-
-gated-requires : tie.Need-gated-requires
-gated-requires c κs = search needs
 
 returns : tie.Need-returns
 returns c =
@@ -110,29 +59,6 @@ returns-7 c =
 pub changed-note-spec : {M : Type 1} → statement M
 changed-note-spec =
     tie.close
-    (tie.spec
-    enum-known-how
-    later-requires
-    at-requires
-    enum-known-how-2
-    stretched-requires
-    enum-known-how-3
-    rotated-requires
-    at-requires-2
-    enum-known-how-4
-    mirrored-requires
-    at-requires-3
-    enum-known-how-5
-    snapped-requires
-    at-requires-4
-    enum-known-how-6
-    scaled-requires
-    enum-known-how-7
-    gated-requires
-    returns
-    returns-2
-    returns-3
-    returns-4
-    returns-5
-    returns-6
-    returns-7)
+    (tie.spec (λ c. search needs) (λ c κs. search needs) (λ c κs. search needs) (λ c. search needs) stretched-requires (λ c. search needs) (λ c κs. search needs)
+    (λ c κs. search needs) (λ c. search needs) (λ c κs. search needs) (λ c κs. search needs) (λ c. search needs) (λ c κs. search needs) (λ c κs. search needs) (λ c. search needs)
+    (λ c κs. search needs) (λ c. search needs) (λ c κs. search needs) returns returns-2 returns-3 returns-4 returns-5 returns-6 returns-7)

@@ -15,21 +15,6 @@ Inv-loop words start len count₀ i₀ count i =
 abbrev μ-loop : tie.MeasureT-loop
 μ-loop words start len count₀ i₀ count i = length words - i
 
-loop-holds : tie.Need-loop-holds Inv-loop μ-loop
-loop-holds c = search needs
-
-note-at-requires : tie.Need-note-at-requires Inv-loop μ-loop
-note-at-requires c κs = search needs
-
-add-i : tie.Need-add-i Inv-loop μ-loop
-add-i c = search needs
-
-add-count : tie.Need-add-count Inv-loop μ-loop
-add-count c = search needs
-
-loop-less : tie.Need-loop-less Inv-loop μ-loop
-loop-less c = search needs
-
 loop-again : tie.Need-loop-again Inv-loop μ-loop
 loop-again c =
     let a = c .before .before .before .before in
@@ -38,9 +23,6 @@ loop-again c =
     let e = ap length (inside (s .start) (s .len) (a .note-at .result) _ _ (a .note-at .ensures) (c .before .before .if1 .taken) (c .if2 .taken)) in
     (omega arith, omega arith, omega arith, omega (arith, e))
 
-loop-less-2 : tie.Need-loop-less-2 Inv-loop μ-loop
-loop-less-2 c = search needs
-
 loop-again-2 : tie.Need-loop-again-2 Inv-loop μ-loop
 loop-again-2 c =
     let a = c .before .before .before .before in
@@ -48,9 +30,6 @@ loop-again-2 c =
     let s = l .before .before .args in
     let e = ap length (behind (s .start) (s .len) (a .note-at .result) _ _ (a .note-at .ensures) (c .before .before .if1 .taken) (c .if2 .left)) in
     (omega arith, omega arith, omega arith, omega (arith, e))
-
-loop-less-3 : tie.Need-loop-less-3 Inv-loop μ-loop
-loop-less-3 c = search needs
 
 loop-again-3 : tie.Need-loop-again-3 Inv-loop μ-loop
 loop-again-3 c =
@@ -70,17 +49,5 @@ returns c =
 pub count-window-spec : {M : Type 1} → statement M
 count-window-spec =
     tie.close
-    (tie.spec
-    Inv-loop
-    μ-loop
-    loop-holds
-    note-at-requires
-    add-i
-    add-count
-    loop-less
-    loop-again
-    loop-less-2
-    loop-again-2
-    loop-less-3
-    loop-again-3
-    returns)
+    (tie.spec Inv-loop μ-loop (λ c. search needs) (λ c κs. search needs) (λ c. search needs) (λ c. search needs) (λ c. search needs) loop-again (λ c. search needs) loop-again-2
+    (λ c. search needs) loop-again-3 returns)

@@ -21,17 +21,8 @@ abbrev μ-loop : tie.MeasureT-loop
 loop-holds : tie.Need-loop-holds Inv-loop μ-loop
 loop-holds c = (refl, omega arith, omega arith, refl)
 
-note-at-requires : tie.Need-note-at-requires Inv-loop μ-loop
-note-at-requires c κs = search needs
-
-cast-step : tie.Need-cast-step Inv-loop μ-loop
-cast-step c = search needs
-
 mul-step : tie.Need-mul-step Inv-loop μ-loop
 mul-step c = record { fits = product-fits _ _ (search needs) (search needs) }
-
-rem-step : tie.Need-rem-step Inv-loop μ-loop
-rem-step c = search needs
 
 returns : tie.Need-returns Inv-loop μ-loop
 returns c =
@@ -40,14 +31,8 @@ returns c =
     let s = l .before .before .args in
     sym (step-off (s .num) (s .den) (l .loop .place) (a .note-at .result) _ _ (a .note-at .ensures) (c .if1 .taken)) ∙ l .loop .inv .3
 
-cast-len : tie.Need-cast-len Inv-loop μ-loop
-cast-len c = search needs
-
 mul-len : tie.Need-mul-len Inv-loop μ-loop
 mul-len c = record { fits = product-fits _ _ (search needs) (search needs) }
-
-rem-len : tie.Need-rem-len Inv-loop μ-loop
-rem-len c = search needs
 
 returns-2 : tie.Need-returns-2 Inv-loop μ-loop
 returns-2 c =
@@ -56,15 +41,6 @@ returns-2 c =
     let l = a .before .before in
     let s = l .before .before .args in
     sym (len-off (s .num) (s .den) (l .loop .place) (a .note-at .result) _ _ (a .note-at .ensures) (f .if1 .left) (c .if2 .taken)) ∙ l .loop .inv .3
-
-add-i : tie.Need-add-i Inv-loop μ-loop
-add-i c = search needs
-
-add-place : tie.Need-add-place Inv-loop μ-loop
-add-place c = search needs
-
-loop-less : tie.Need-loop-less Inv-loop μ-loop
-loop-less c = search needs
 
 loop-again : tie.Need-loop-again Inv-loop μ-loop
 loop-again c =
@@ -84,21 +60,5 @@ returns-3 c =
 pub note-off-grid-spec : {M : Type 1} → statement M
 note-off-grid-spec =
     tie.close
-    (tie.spec
-    Inv-loop
-    μ-loop
-    loop-holds
-    note-at-requires
-    cast-step
-    mul-step
-    rem-step
-    returns
-    cast-len
-    mul-len
-    rem-len
-    returns-2
-    add-i
-    add-place
-    loop-less
-    loop-again
-    returns-3)
+    (tie.spec Inv-loop μ-loop loop-holds (λ c κs. search needs) (λ c. search needs) mul-step (λ c. search needs) returns (λ c. search needs) mul-len (λ c. search needs) returns-2
+    (λ c. search needs) (λ c. search needs) (λ c. search needs) loop-again returns-3)

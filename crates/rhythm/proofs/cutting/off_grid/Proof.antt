@@ -10,17 +10,12 @@ use Rattle.rhythm.proofs.cutting.off_grid.Statement.{statement}
 mul-left : tie.Need-mul-left
 mul-left c = record { fits = product-fits _ _ (search needs) (search needs) }
 
-rem-left : tie.Need-rem-left
-rem-left c = search needs
-
 returns : tie.Need-returns
 returns c = let s = c .before .before .args in sym (bars-off (s .num) (s .den) (s .bars) (notesOf (s .words .now)) (c .if1 .taken))
-
-note-off-grid-requires : tie.Need-note-off-grid-requires
-note-off-grid-requires c κs = search needs
 
 returns-2 : tie.Need-returns-2
 returns-2 c = let s = c .before .before .before .args in c .note-off-grid .ensures ∙ sym (bars-on (s .num) (s .den) (s .bars) (notesOf (s .words .now)) (c .before .if1 .left))
 
 pub off-grid-spec : {M : Type 1} → statement M
-off-grid-spec = tie.close (tie.spec mul-left rem-left returns note-off-grid-requires returns-2)
+off-grid-spec =
+    tie.close (tie.spec mul-left (λ c. search needs) returns (λ c κs. search needs) returns-2)

@@ -22,15 +22,6 @@ abbrev μ-loop : tie.MeasureT-loop
 loop-holds : tie.Need-loop-holds Inv-loop μ-loop
 loop-holds c = (refl, omega arith, omega arith, begin _ _)
 
-note-at-requires : tie.Need-note-at-requires Inv-loop μ-loop
-note-at-requires c κs = search needs
-
-add-i : tie.Need-add-i Inv-loop μ-loop
-add-i c = search needs
-
-at-requires : tie.Need-at-requires Inv-loop μ-loop
-at-requires c κs = search needs
-
 put-note-requires : tie.Need-put-note-requires Inv-loop μ-loop
 put-note-requires c κs =
     let a = c .before .before .before .before .before .before in
@@ -38,12 +29,6 @@ put-note-requires c κs =
     let s = l .before .before .before .args in
     let e = ap length (inside (s .start) (s .len) (a .note-at .result) _ _ (a .note-at .ensures) (c .before .before .before .before .if1 .taken) (c .before .before .if2 .taken)) in
     omega (arith, e)
-
-add-o : tie.Need-add-o Inv-loop μ-loop
-add-o c = search needs
-
-loop-less : tie.Need-loop-less Inv-loop μ-loop
-loop-less c = search needs
 
 loop-again : tie.Need-loop-again Inv-loop μ-loop
 unfolding wordsOf
@@ -63,9 +48,6 @@ loop-again c =
       rw (p .put-note .ensures, m .at .ensures) (more-note (placed (n .step - s .start) n) (omega (arith, k)) (ap wordsOf e) (l .loop .inv .3)),
     )
 
-loop-less-2 : tie.Need-loop-less-2 Inv-loop μ-loop
-loop-less-2 c = search needs
-
 loop-again-2 : tie.Need-loop-again-2 Inv-loop μ-loop
 loop-again-2 c =
     let a = c .before .before .before .before in
@@ -75,9 +57,6 @@ loop-again-2 c =
     let k = ap length e in
     (omega arith, omega arith, omega (arith, k), skip (ap wordsOf e) (l .loop .inv .3))
 
-loop-less-3 : tie.Need-loop-less-3 Inv-loop μ-loop
-loop-less-3 c = search needs
-
 loop-again-3 : tie.Need-loop-again-3 Inv-loop μ-loop
 loop-again-3 c =
     let a = c .before .before in
@@ -86,9 +65,6 @@ loop-again-3 c =
     let e = before (s .start) (s .len) (a .note-at .result) _ _ (a .note-at .ensures) (c .if1 .left) in
     let k = ap length e in
     (omega arith, omega arith, omega (arith, k), skip (ap wordsOf e) (l .loop .inv .3))
-
-same-length : tie.Need-same-length Inv-loop μ-loop
-same-length c = search needs
 
 returns : tie.Need-returns Inv-loop μ-loop
 unfolding wordsOf
@@ -104,20 +80,5 @@ returns c =
 pub write-window-spec : {M : Type 1} → statement M
 write-window-spec =
     tie.close
-    (tie.spec
-    Inv-loop
-    μ-loop
-    loop-holds
-    note-at-requires
-    add-i
-    at-requires
-    put-note-requires
-    add-o
-    loop-less
-    loop-again
-    loop-less-2
-    loop-again-2
-    loop-less-3
-    loop-again-3
-    same-length
-    returns)
+    (tie.spec Inv-loop μ-loop loop-holds (λ c κs. search needs) (λ c. search needs) (λ c κs. search needs) put-note-requires (λ c. search needs) (λ c. search needs) loop-again
+    (λ c. search needs) loop-again-2 (λ c. search needs) loop-again-3 (λ c. search needs) returns)

@@ -44,9 +44,6 @@ returns c =
     let s = c .before .before .before .args in
     nothing (s .words .now) (s .out .now) (s .stride) (s .times) (c .if1 .taken)
 
-capped-requires : tie.Need-capped-requires Inv-loop μ-loop
-capped-requires c κs = search needs
-
 loop-holds : tie.Need-loop-holds Inv-loop μ-loop
 loop-holds c =
     let s = c .before .before .before .before .args in
@@ -62,9 +59,6 @@ sub-copy c = omega (arith, room c)
 part-copy-start : tie.Need-part-copy-start Inv-loop μ-loop
 part-copy-start c = omega (arith, room c)
 
-part-copy-end : tie.Need-part-copy-end Inv-loop μ-loop
-part-copy-end c = search needs
-
 copy-requires : tie.Need-copy-requires Inv-loop μ-loop
 copy-requires c κs =
     let s = c .before .before .before .before .before .before .before in
@@ -72,18 +66,6 @@ copy-requires c κs =
 
 add-at : tie.Need-add-at Inv-loop μ-loop
 add-at c = omega (arith, room (c .before .before .before .before))
-
-add-capped : tie.Need-add-capped Inv-loop μ-loop
-add-capped c = search needs
-
-capped-requires-2 : tie.Need-capped-requires-2 Inv-loop μ-loop
-capped-requires-2 c κs = search needs
-
-add-i : tie.Need-add-i Inv-loop μ-loop
-add-i c = search needs
-
-loop-less : tie.Need-loop-less Inv-loop μ-loop
-loop-less c = search needs
 
 loop-again : tie.Need-loop-again Inv-loop μ-loop
 loop-again c =
@@ -100,9 +82,6 @@ loop-again c =
           (copies-turn ws (s .args .stride) i (s .args .times) (l .loop .off) (t .loop-test .taken) (l .loop .inv .2)) (p .copy .ensures) (l .loop .inv .3),
     )
 
-same-length : tie.Need-same-length Inv-loop μ-loop
-same-length c = search needs
-
 returns-2 : tie.Need-returns-2 Inv-loop μ-loop
 returns-2 c =
     let l = c .before in
@@ -115,22 +94,5 @@ returns-2 c =
 pub copies-spec : {M : Type 1} → statement M
 copies-spec =
     tie.close
-    (tie.spec
-    Inv-loop
-    μ-loop
-    returns
-    capped-requires
-    loop-holds
-    mul-copy
-    sub-copy
-    part-copy-start
-    part-copy-end
-    copy-requires
-    add-at
-    add-capped
-    capped-requires-2
-    add-i
-    loop-less
-    loop-again
-    same-length
-    returns-2)
+    (tie.spec Inv-loop μ-loop returns (λ c κs. search needs) loop-holds mul-copy sub-copy part-copy-start (λ c. search needs) copy-requires add-at (λ c. search needs)
+    (λ c κs. search needs) (λ c. search needs) (λ c. search needs) loop-again (λ c. search needs) returns-2)

@@ -13,27 +13,6 @@ use Rattle.rhythm.proofs.Repeats.{later-zero}
 use Rattle.rhythm.proofs.joining.join.Tie as tie
 use Rattle.rhythm.proofs.joining.join.Statement.{statement}
 
-copy-requires : tie.Need-copy-requires
-copy-requires c κs = search needs
-
-mul-copy : tie.Need-mul-copy
-mul-copy c = search needs
-
-sub-copy : tie.Need-sub-copy
-sub-copy c = search needs
-
-part-copy-start : tie.Need-part-copy-start
-part-copy-start c = search needs
-
-part-copy-end : tie.Need-part-copy-end
-part-copy-end c = search needs
-
-copy-requires-2 : tie.Need-copy-requires-2
-copy-requires-2 c κs = search needs
-
-same-length : tie.Need-same-length
-same-length c = search needs
-
 returns : tie.Need-returns
 returns c =
     let p2 = c .before .before in
@@ -52,13 +31,4 @@ returns c =
 
 pub join-spec : {M : Type 1} → statement M
 join-spec =
-    tie.close
-    (tie.spec
-    copy-requires
-    mul-copy
-    sub-copy
-    part-copy-start
-    part-copy-end
-    copy-requires-2
-    same-length
-    returns)
+    tie.close (tie.spec (λ c κs. search needs) (λ c. search needs) (λ c. search needs) (λ c. search needs) (λ c. search needs) (λ c κs. search needs) (λ c. search needs) returns)

@@ -21,26 +21,11 @@ Inv-loop how count len tag out₀ long k₀ o₀ out k o =
 abbrev μ-loop : tie.MeasureT-loop
 μ-loop how count len tag out₀ long k₀ o₀ out k o = count - k
 
-larger-requires : tie.Need-larger-requires Inv-loop μ-loop
-larger-requires c κs = search needs
-
 loop-holds : tie.Need-loop-holds Inv-loop μ-loop
 loop-holds c = (omega arith, omega arith, begin-by _ (rw sub-zero))
 
 place-requires : tie.Need-place-requires Inv-loop μ-loop
 place-requires c κs = let s = c .before .before .before .before in held-within (s .args .how) (s .args .count) (c .before .loop .k) (s .pre .0) (c .loop-test .taken)
-
-put-note-requires : tie.Need-put-note-requires Inv-loop μ-loop
-put-note-requires c κs = search needs
-
-add-o : tie.Need-add-o Inv-loop μ-loop
-add-o c = search needs
-
-add-k : tie.Need-add-k Inv-loop μ-loop
-add-k c = search needs
-
-loop-less : tie.Need-loop-less Inv-loop μ-loop
-loop-less c = search needs
 
 loop-again : tie.Need-loop-again Inv-loop μ-loop
 loop-again c =
@@ -56,9 +41,6 @@ loop-again c =
       rw (p .put-note .ensures) (more-note m (omega arith) (row-turn note (l .loop .k) (s .count) m (pl .before .loop-test .taken) q) (l .loop .inv .2)),
     )
 
-same-length : tie.Need-same-length Inv-loop μ-loop
-same-length c = search needs
-
 returns : tie.Need-returns Inv-loop μ-loop
 returns c =
     let l = c .before in
@@ -71,16 +53,5 @@ returns c =
 pub fill-spec : {M : Type 1} → statement M
 fill-spec =
     tie.close
-    (tie.spec
-    Inv-loop
-    μ-loop
-    larger-requires
-    loop-holds
-    place-requires
-    put-note-requires
-    add-o
-    add-k
-    loop-less
-    loop-again
-    same-length
-    returns)
+    (tie.spec Inv-loop μ-loop (λ c κs. search needs) loop-holds place-requires (λ c κs. search needs) (λ c. search needs) (λ c. search needs) (λ c. search needs) loop-again
+    (λ c. search needs) returns)

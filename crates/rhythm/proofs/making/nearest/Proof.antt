@@ -13,37 +13,22 @@ use Rattle.rhythm.proofs.making.nearest.Statement.{statement}
 mul-n : tie.Need-mul-n
 mul-n c = record { fits = product-fits _ _ (search needs) (search needs) }
 
-rem-left : tie.Need-rem-left
-rem-left c = search needs
-
 mul-if1 : tie.Need-mul-if1
 mul-if1 c =
     let a = c .args in
     let m : a .k * a .steps % a .count < a .count = mod-lt (a .k * a .steps) (omega arith) in
     record { fits = omega arith }
 
-div-to-u32 : tie.Need-div-to-u32
-div-to-u32 c = search needs
-
-to-u32-requires : tie.Need-to-u32-requires
-to-u32-requires c κs = search needs
-
 returns : tie.Need-returns
 returns c =
     let a = c .before .before .args in
     c .to-u32 .ensures ∙ ap (λ (q : ℕ). min q mostStep) (under-half (a .k * a .steps) (a .count) (omega arith) (c .before .if1 .taken))
-
-div-to-u32-2 : tie.Need-div-to-u32-2
-div-to-u32-2 c = search needs
 
 add-to-u32 : tie.Need-add-to-u32
 add-to-u32 c =
     let a = c .before .args in
     let m : a .k * a .steps ≤ (2 ^ 32 - 1) * (2 ^ 32 - 1) = mul-le-mul {n₂ = 2 ^ 32 - 1} {m₂ = 2 ^ 32 - 1} (omega arith) (omega arith) in
     record { fits = omega (arith, div-le-self (a .k * a .steps) (a .count)) }
-
-to-u32-requires-2 : tie.Need-to-u32-requires-2
-to-u32-requires-2 c κs = search needs
 
 returns-2 : tie.Need-returns-2
 returns-2 c =
@@ -52,15 +37,4 @@ returns-2 c =
 
 pub nearest-spec : {M : Type 1} → statement M
 nearest-spec =
-    tie.close
-    (tie.spec
-    mul-n
-    rem-left
-    mul-if1
-    div-to-u32
-    to-u32-requires
-    returns
-    div-to-u32-2
-    add-to-u32
-    to-u32-requires-2
-    returns-2)
+    tie.close (tie.spec mul-n (λ c. search needs) mul-if1 (λ c. search needs) (λ c κs. search needs) returns (λ c. search needs) add-to-u32 (λ c κs. search needs) returns-2)

@@ -6,14 +6,8 @@ use Rattle.rhythm.specs.Makes.{placeOf}
 use Rattle.rhythm.proofs.making.place.Tie as tie
 use Rattle.rhythm.proofs.making.place.Statement.{statement}
 
-enum-known-how : tie.Need-enum-known-how
-enum-known-how c = search needs
-
 pulse-requires : tie.Need-pulse-requires
 pulse-requires c κs = rw (c .before .how .given .1) at (c .before .before .before .pre)
-
-enum-known-how-2 : tie.Need-enum-known-how-2
-enum-known-how-2 c = search needs
 
 nearest-requires : tie.Need-nearest-requires
 nearest-requires c κs = rw (c .before .how2 .given .1) at (c .before .before .before .pre)
@@ -26,5 +20,4 @@ returns-2 c = let s = c .before .before .before .before .args in c .nearest .ens
 
 pub place-spec : {M : Type 1} → statement M
 place-spec =
-    tie.close
-    (tie.spec enum-known-how pulse-requires enum-known-how-2 nearest-requires returns returns-2)
+    tie.close (tie.spec (λ c. search needs) pulse-requires (λ c. search needs) nearest-requires returns returns-2)

@@ -10,17 +10,11 @@ use Rattle.rhythm.proofs.making.pulse.Statement.{statement}
 mul-result : tie.Need-mul-result
 mul-result c = record { fits = product-fits _ _ (search needs) (search needs) }
 
-sub-result : tie.Need-sub-result
-sub-result c = search needs
-
 add-result : tie.Need-add-result
 add-result c =
     let a = c .args in
     let m : a .k * a .steps ≤ (2 ^ 32 - 2) * (2 ^ 32 - 1) = mul-le-mul {n₂ = 2 ^ 32 - 2} {m₂ = 2 ^ 32 - 1} (omega arith) (omega arith) in
     record { fits = omega arith }
-
-div-result : tie.Need-div-result
-div-result c = search needs
 
 cast-result : tie.Need-cast-result
 cast-result c =
@@ -28,8 +22,6 @@ cast-result c =
     let m : a .k * a .steps ≤ (a .pulses - 1) * (2 ^ 32 - 1) = mul-le-mul {n₂ = a .pulses - 1} {m₂ = 2 ^ 32 - 1} (omega arith) (omega arith) in
     record { fits = div-lt-iff-lt-mul {k = a .pulses} (omega arith) .1 (omega arith) }
 
-returns : tie.Need-returns
-returns c = search needs
-
 pub pulse-spec : {M : Type 1} → statement M
-pulse-spec = tie.close (tie.spec mul-result sub-result add-result div-result cast-result returns)
+pulse-spec =
+    tie.close (tie.spec mul-result (λ c. search needs) add-result (λ c. search needs) cast-result (λ c. search needs))

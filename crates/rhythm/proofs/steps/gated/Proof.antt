@@ -7,15 +7,6 @@ use Rattle.rounding.specs.Floats.{roundAway}
 use Rattle.rhythm.proofs.steps.gated.Tie as tie
 use Rattle.rhythm.proofs.steps.gated.Statement.{statement}
 
-nearest-u32-to-f32-requires : tie.Need-nearest-u32-to-f32-requires
-nearest-u32-to-f32-requires c κs = search needs
-
-round-to-u32-requires : tie.Need-round-to-u32-requires
-round-to-u32-requires c κs = search needs
-
-larger-requires : tie.Need-larger-requires
-larger-requires c κs = search needs
-
 returns : tie.Need-returns
 returns c =
     let a = c .before .before .before .args in
@@ -24,4 +15,4 @@ returns c =
 
 pub gated-spec : {M : Type 1} → statement M
 gated-spec =
-    tie.close (tie.spec nearest-u32-to-f32-requires round-to-u32-requires larger-requires returns)
+    tie.close (tie.spec (λ c κs. search needs) (λ c κs. search needs) (λ c κs. search needs) returns)

@@ -17,12 +17,6 @@ use Rattle.rhythm.proofs.steps.rotated.Statement.{statement}
 returns : tie.Need-returns
 returns c = simp (eq-eqb _ _ (c .if1 .taken))
 
-negative-requires : tie.Need-negative-requires
-negative-requires c κs = search needs
-
-magnitude-requires : tie.Need-magnitude-requires
-magnitude-requires c κs = search needs
-
 turned-requires : tie.Need-turned-requires
 turned-requires c κs =
     let s = c .before .before .before in
@@ -30,9 +24,6 @@ turned-requires c κs =
     let small : natAbs (s .args .shift) ≤ 2 ^ 63 = natAbs-le (s .args .shift) (s .fits .shift .sfits) in
     let size : c .magnitude .result ≡ natAbs (s .args .shift) = c .magnitude .ensures ∙ ap natAbs same in
     (omega arith, omega arith)
-
-cast-result : tie.Need-cast-result
-cast-result c = search needs
 
 returns-2 : tie.Need-returns-2
 returns-2 c =
@@ -49,5 +40,4 @@ returns-2 c =
 
 pub rotated-spec : {M : Type 1} → statement M
 rotated-spec =
-    tie.close
-    (tie.spec returns negative-requires magnitude-requires turned-requires cast-result returns-2)
+    tie.close (tie.spec returns (λ c κs. search needs) (λ c κs. search needs) turned-requires (λ c. search needs) returns-2)

@@ -8,15 +8,6 @@ use Rattle.rhythm.specs.Values.{scaledGain}
 use Rattle.rhythm.proofs.steps.scaled.Tie as tie
 use Rattle.rhythm.proofs.steps.scaled.Statement.{statement}
 
-f32-of-requires : tie.Need-f32-of-requires
-f32-of-requires c κs = search needs
-
-clamp-f32-requires : tie.Need-clamp-f32-requires
-clamp-f32-requires c κs = search needs
-
-f32-word-requires : tie.Need-f32-word-requires
-f32-word-requires c κs = search needs
-
 returns : tie.Need-returns
 unfolding scaledGain
 returns c =
@@ -26,4 +17,5 @@ returns c =
     ∙ ap (toBits binary32) (c .before .clamp-f32 .ensures ∙ (λ i. clamp (mul binary32 (f i) (a .scale)) (zero-bits i) (one-bits i)))
 
 pub scaled-spec : {M : Type 1} → statement M
-scaled-spec = tie.close (tie.spec f32-of-requires clamp-f32-requires f32-word-requires returns)
+scaled-spec =
+    tie.close (tie.spec (λ c κs. search needs) (λ c κs. search needs) (λ c κs. search needs) returns)

@@ -9,25 +9,10 @@ use Rattle.rhythm.proofs.Sums.{snap}
 use Rattle.rhythm.proofs.steps.snapped.Tie as tie
 use Rattle.rhythm.proofs.steps.snapped.Statement.{statement}
 
-larger-requires : tie.Need-larger-requires
-larger-requires c κs = search needs
-
-cast-g : tie.Need-cast-g
-cast-g c = search needs
-
-add-to-u32 : tie.Need-add-to-u32
-add-to-u32 c = search needs
-
-div-to-u32 : tie.Need-div-to-u32
-div-to-u32 c = search needs
-
 mul-to-u32 : tie.Need-mul-to-u32
 mul-to-u32 c =
     let g = c .larger .result in
     record { fits = omega (arith, div-mul-le-self (c .before .args .step + g / 2) g) }
-
-to-u32-requires : tie.Need-to-u32-requires
-to-u32-requires c κs = search needs
 
 returns : tie.Need-returns
 returns c =
@@ -40,5 +25,4 @@ returns c =
 
 pub snapped-spec : {M : Type 1} → statement M
 snapped-spec =
-    tie.close
-    (tie.spec larger-requires cast-g add-to-u32 div-to-u32 mul-to-u32 to-u32-requires returns)
+    tie.close (tie.spec (λ c κs. search needs) (λ c. search needs) (λ c. search needs) (λ c. search needs) mul-to-u32 (λ c κs. search needs) returns)

@@ -7,14 +7,6 @@ use Rattle.rhythm.proofs.steps.stretched.Statement.{statement}
 mul-to-u32 : tie.Need-mul-to-u32
 mul-to-u32 c = record { fits = product-fits _ _ (search needs) (search needs) }
 
-div-to-u32 : tie.Need-div-to-u32
-div-to-u32 c = search needs
-
-to-u32-requires : tie.Need-to-u32-requires
-to-u32-requires c κs = search needs
-
-returns : tie.Need-returns
-returns c = search needs
-
 pub stretched-spec : {M : Type 1} → statement M
-stretched-spec = tie.close (tie.spec mul-to-u32 div-to-u32 to-u32-requires returns)
+stretched-spec =
+    tie.close (tie.spec mul-to-u32 (λ c. search needs) (λ c κs. search needs) (λ c. search needs))

@@ -7,11 +7,6 @@ use Rattle.rhythm.proofs.steps.times_bars.Statement.{statement}
 mul-to-u32 : tie.Need-mul-to-u32
 mul-to-u32 c = record { fits = product-fits _ _ (search needs) (search needs) }
 
-to-u32-requires : tie.Need-to-u32-requires
-to-u32-requires c κs = search needs
-
-returns : tie.Need-returns
-returns c = search needs
-
 pub times-bars-spec : {M : Type 1} → statement M
-times-bars-spec = tie.close (tie.spec mul-to-u32 to-u32-requires returns)
+times-bars-spec =
+    tie.close (tie.spec mul-to-u32 (λ c κs. search needs) (λ c. search needs))

@@ -6,12 +6,6 @@ use Rattle.numbers.proofs.Laws.{product-fits}
 use Rattle.rhythm.proofs.steps.total.Tie as tie
 use Rattle.rhythm.proofs.steps.total.Statement.{statement}
 
-larger-requires : tie.Need-larger-requires
-larger-requires c κs = search needs
-
-cast-result : tie.Need-cast-result
-cast-result c = search needs
-
 mul-result : tie.Need-mul-result
 mul-result c =
     let f : c .larger .result < 2 ^ 32 = search needs in
@@ -21,4 +15,5 @@ returns : tie.Need-returns
 returns c = ap (λ (k : ℕ). c .before .args .bars * k) (c .larger .ensures)
 
 pub total-spec : {M : Type 1} → statement M
-total-spec = tie.close (tie.spec larger-requires cast-result mul-result returns)
+total-spec =
+    tie.close (tie.spec (λ c κs. search needs) (λ c. search needs) mul-result returns)

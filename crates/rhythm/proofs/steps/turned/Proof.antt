@@ -16,36 +16,15 @@ use Rattle.rhythm.proofs.steps.turned.Statement.{statement}
 by-sign : (step size total : ℕ) (b back : Bool) → back ≡ b → remainder (pos step +ℤ withSign b size) total ≡ remainder (pos step +ℤ withSign back size) total
 by-sign step size total b back e = ap (λ (x : Bool). remainder (pos step +ℤ withSign x size) total) (sym e)
 
-add-result : tie.Need-add-result
-add-result c = search needs
-
-rem-result : tie.Need-rem-result
-rem-result c = search needs
-
 returns : tie.Need-returns
 returns c =
     let s = c .before .args in
     turned-on (s .step) (s .total) (s .size) ∙ by-sign (s .step) (s .size) (s .total) false (s .back) (not-true _ (c .if1 .taken))
 
-rem-result-2 : tie.Need-rem-result-2
-rem-result-2 c = search needs
-
 returns-2 : tie.Need-returns-2
 returns-2 c =
     let s = c .before .before .args in
     turned-back (s .step) (s .total) (s .size) (c .if2 .taken) ∙ by-sign (s .step) (s .size) (s .total) true (s .back) (not-false _ (c .before .if1 .left))
-
-sub-result : tie.Need-sub-result
-sub-result c = search needs
-
-sub-result-2 : tie.Need-sub-result-2
-sub-result-2 c = search needs
-
-sub-result-3 : tie.Need-sub-result-3
-sub-result-3 c = search needs
-
-rem-result-3 : tie.Need-rem-result-3
-rem-result-3 c = search needs
 
 sub-result-4 : tie.Need-sub-result-4
 sub-result-4 c =
@@ -60,15 +39,5 @@ returns-3 c =
 pub turned-spec : {M : Type 1} → statement M
 turned-spec =
     tie.close
-    (tie.spec
-    add-result
-    rem-result
-    returns
-    rem-result-2
-    returns-2
-    sub-result
-    sub-result-2
-    sub-result-3
-    rem-result-3
-    sub-result-4
-    returns-3)
+    (tie.spec (λ c. search needs) (λ c. search needs) returns (λ c. search needs) returns-2 (λ c. search needs) (λ c. search needs) (λ c. search needs) (λ c. search needs)
+    sub-result-4 returns-3)

@@ -6,18 +6,10 @@ use Rattle.score.specs.Format.{beatAt}
 use Rattle.score.proofs.file.beat_at.Statement.{statement}
 use Rattle.score.proofs.file.beat_at.Tie as tie
 
-number-at-requires : tie.Need-number-at-requires
-number-at-requires c κs = search needs
-
-add-word-at : tie.Need-add-word-at
-add-word-at c = search needs
-
-word-at-requires : tie.Need-word-at-requires
-word-at-requires c κs = search needs
-
 returns : tie.Need-returns
 unfolding beatAt
 returns c = rw (toZ-ofZ w64 (c .before .number-at .result) (search needs), c .before .number-at .ensures, c .word-at .ensures)
 
 pub beat-at-spec : {M : Type 1} → statement M
-beat-at-spec = tie.close (tie.spec number-at-requires add-word-at word-at-requires returns)
+beat-at-spec =
+    tie.close (tie.spec (λ c κs. search needs) (λ c. search needs) (λ c κs. search needs) returns)

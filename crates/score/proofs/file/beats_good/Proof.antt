@@ -20,26 +20,11 @@ abbrev μ-loop : tie.MeasureT-loop
 loop-holds : tie.Need-loop-holds Inv-loop μ-loop
 loop-holds c = (omega arith, refl)
 
-beat-at-requires : tie.Need-beat-at-requires Inv-loop μ-loop
-beat-at-requires c κs = omega arith
-
-is-beat-requires : tie.Need-is-beat-requires Inv-loop μ-loop
-is-beat-requires c κs = search needs
-
 returns : tie.Need-returns Inv-loop μ-loop
 returns c =
     let l = c .before .before .before .before in
     sym (bad-step _ (l .loop .p) (l .loop .left) (c .before .before .before .loop-test .taken)
     (ap isBeat (sym (c .before .before .beat-at .ensures)) ∙ sym (c .before .is-beat .ensures) ∙ not-true _ (c .if1 .taken))) ∙ l .loop .inv .1
-
-add-p : tie.Need-add-p Inv-loop μ-loop
-add-p c = omega arith
-
-sub-left : tie.Need-sub-left Inv-loop μ-loop
-sub-left c = omega arith
-
-loop-less : tie.Need-loop-less Inv-loop μ-loop
-loop-less c = omega arith
 
 loop-again : tie.Need-loop-again Inv-loop μ-loop
 loop-again c =
@@ -55,15 +40,4 @@ returns-2 c = sym (none-good _ (c .before .loop .p) (c .before .loop .left) (ome
 pub beats-good-spec : {M : Type 1} → statement M
 beats-good-spec =
     tie.close
-    (tie.spec
-    Inv-loop
-    μ-loop
-    loop-holds
-    beat-at-requires
-    is-beat-requires
-    returns
-    add-p
-    sub-left
-    loop-less
-    loop-again
-    returns-2)
+    (tie.spec Inv-loop μ-loop loop-holds (λ c κs. omega arith) (λ c κs. search needs) returns (λ c. omega arith) (λ c. omega arith) (λ c. omega arith) loop-again returns-2)

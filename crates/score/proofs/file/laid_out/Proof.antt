@@ -4,27 +4,6 @@ use Rattle.score.proofs.Places.{laid-is}
 use Rattle.score.proofs.file.laid_out.Statement.{statement}
 use Rattle.score.proofs.file.laid_out.Tie as tie
 
-word-at-requires : tie.Need-word-at-requires
-word-at-requires c κs = search needs
-
-word-at-requires-2 : tie.Need-word-at-requires-2
-word-at-requires-2 c κs = search needs
-
-word-at-requires-3 : tie.Need-word-at-requires-3
-word-at-requires-3 c κs = search needs
-
-word-at-requires-4 : tie.Need-word-at-requires-4
-word-at-requires-4 c κs = search needs
-
-word-at-requires-5 : tie.Need-word-at-requires-5
-word-at-requires-5 c κs = search needs
-
-word-at-requires-6 : tie.Need-word-at-requires-6
-word-at-requires-6 c κs = search needs
-
-laid-out-by-requires : tie.Need-laid-out-by-requires
-laid-out-by-requires c κs = search needs
-
 returns : tie.Need-returns
 returns c =
     let w4 = c .before .before .before in
@@ -35,12 +14,5 @@ returns c =
 pub laid-out-spec : {M : Type 1} → statement M
 laid-out-spec =
     tie.close
-    (tie.spec
-    word-at-requires
-    word-at-requires-2
-    word-at-requires-3
-    word-at-requires-4
-    word-at-requires-5
-    word-at-requires-6
-    laid-out-by-requires
+    (tie.spec (λ c κs. search needs) (λ c κs. search needs) (λ c κs. search needs) (λ c κs. search needs) (λ c κs. search needs) (λ c κs. search needs) (λ c κs. search needs)
     returns)

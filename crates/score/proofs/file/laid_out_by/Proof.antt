@@ -16,28 +16,10 @@ returns-3 c = simp (eq-eqb _ _ (c .before .before .if1 .left), le-leb _ _ (c .be
 returns-4 : tie.Need-returns-4
 returns-4 c = simp (eq-eqb _ _ (c .before .before .before .if1 .left), le-leb _ _ (c .before .before .if2 .left), eq-eqb _ _ (c .before .if3 .left), lt-leb _ _ (c .if4 .taken))
 
-mul-if5 : tie.Need-mul-if5
-mul-if5 c = search needs
-
-add-if5 : tie.Need-add-if5
-add-if5 c = search needs
-
 returns-5 : tie.Need-returns-5
 returns-5 c =
     let t = c .before .before in
     simp (eq-eqb _ _ (t .before .before .if1 .left), le-leb _ _ (t .before .if2 .left), eq-eqb _ _ (t .if3 .left), le-leb _ _ (c .before .if4 .left), ne-eqb _ _ (c .if5 .taken))
-
-mul-if6 : tie.Need-mul-if6
-mul-if6 c = search needs
-
-add-if6 : tie.Need-add-if6
-add-if6 c = search needs
-
-mul-if6-2 : tie.Need-mul-if6-2
-mul-if6-2 c = search needs
-
-add-if6-2 : tie.Need-add-if6-2
-add-if6-2 c = search needs
 
 returns-6 : tie.Need-returns-6
 returns-6 c =
@@ -66,17 +48,5 @@ returns-7 c =
 pub laid-out-by-spec : {M : Type 1} → statement M
 laid-out-by-spec =
     tie.close
-    (tie.spec
-    returns
-    returns-2
-    returns-3
-    returns-4
-    mul-if5
-    add-if5
-    returns-5
-    mul-if6
-    add-if6
-    mul-if6-2
-    add-if6-2
-    returns-6
-    returns-7)
+    (tie.spec returns returns-2 returns-3 returns-4 (λ c. search needs) (λ c. search needs) returns-5 (λ c. search needs) (λ c. search needs) (λ c. search needs)
+    (λ c. search needs) returns-6 returns-7)

@@ -7,23 +7,8 @@ use Rattle.score.proofs.Places.{none-low, none-high, some-good}
 use Rattle.score.proofs.file.pickup_good.Statement.{statement}
 use Rattle.score.proofs.file.pickup_good.Tie as tie
 
-word-at-requires : tie.Need-word-at-requires
-word-at-requires c κs = search needs
-
-word-at-requires-2 : tie.Need-word-at-requires-2
-word-at-requires-2 c κs = search needs
-
 returns : tie.Need-returns
 returns c = none-low _ _ (c .before .before .before .word-at .ensures) (c .before .before .if1 .taken) _ (c .before .word-at2 .ensures) (c .if2 .taken)
-
-word-at-requires-3 : tie.Need-word-at-requires-3
-word-at-requires-3 c κs = search needs
-
-number-at-requires : tie.Need-number-at-requires
-number-at-requires c κs = search needs
-
-is-beat-requires : tie.Need-is-beat-requires
-is-beat-requires c κs = search needs
 
 returns-2 : tie.Need-returns-2
 returns-2 c =
@@ -38,13 +23,4 @@ returns-3 c =
 
 pub pickup-good-spec : {M : Type 1} → statement M
 pickup-good-spec =
-    tie.close
-    (tie.spec
-    word-at-requires
-    word-at-requires-2
-    returns
-    word-at-requires-3
-    number-at-requires
-    is-beat-requires
-    returns-2
-    returns-3)
+    tie.close (tie.spec (λ c κs. search needs) (λ c κs. search needs) returns (λ c κs. search needs) (λ c κs. search needs) (λ c κs. search needs) returns-2 returns-3)

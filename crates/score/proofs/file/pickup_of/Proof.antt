@@ -7,14 +7,8 @@ use Rattle.score.proofs.Places.{none-is, some-is}
 use Rattle.score.proofs.file.pickup_of.Statement.{statement}
 use Rattle.score.proofs.file.pickup_of.Tie as tie
 
-word-at-requires : tie.Need-word-at-requires
-word-at-requires c κs = search needs
-
 returns : tie.Need-returns
 returns c = none-is _ _ (c .before .word-at .ensures) (c .if1 .taken)
-
-number-at-requires : tie.Need-number-at-requires
-number-at-requires c κs = search needs
 
 returns-2 : tie.Need-returns-2
 returns-2 c =
@@ -22,4 +16,5 @@ returns-2 c =
     (toZ-ofZ w64 (c .number-at .result) (search needs) ∙ c .number-at .ensures)
 
 pub pickup-of-spec : {M : Type 1} → statement M
-pickup-of-spec = tie.close (tie.spec word-at-requires returns number-at-requires returns-2)
+pickup-of-spec =
+    tie.close (tie.spec (λ c κs. search needs) returns (λ c κs. search needs) returns-2)

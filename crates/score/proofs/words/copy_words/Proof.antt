@@ -27,23 +27,11 @@ word-at-requires c κs =
     let a = l .before .before .before .args in
     omega (arith, one-more (a .step) (l .loop .k) (a .count) (c .loop-test .taken))
 
-mul-out : tie.Need-mul-out Inv-loop μ-loop
-mul-out c = search needs
-
-slice-write-out : tie.Need-slice-write-out Inv-loop μ-loop
-slice-write-out c = search needs
-
 add-p : tie.Need-add-p Inv-loop μ-loop
 add-p c =
     let l = c .before .before in
     let a = l .before .before .before .args in
     omega (arith, one-more (a .step) (l .loop .k) (a .count) (c .before .loop-test .taken))
-
-add-k : tie.Need-add-k Inv-loop μ-loop
-add-k c = search needs
-
-loop-less : tie.Need-loop-less Inv-loop μ-loop
-loop-less c = omega arith
 
 loop-again : tie.Need-loop-again Inv-loop μ-loop
 loop-again c =
@@ -51,9 +39,6 @@ loop-again c =
     let a = l .before .before .before .args in
     let next = each-step (wordAt (a .bytes .now)) (l .loop .p) (a .step) (a .count) (l .loop .k) _ (c .before .loop-test .taken) (c .word-at .ensures) in
     (omega arith, omega arith, more-word (c .word-at .result) (omega arith) next (l .loop .inv .2))
-
-same-length : tie.Need-same-length Inv-loop μ-loop
-same-length c = search needs
 
 returns : tie.Need-returns Inv-loop μ-loop
 returns c =
@@ -67,16 +52,5 @@ returns c =
 pub copy-words-spec : {M : Type 1} → statement M
 copy-words-spec =
     tie.close
-    (tie.spec
-    Inv-loop
-    μ-loop
-    loop-holds
-    word-at-requires
-    mul-out
-    slice-write-out
-    add-p
-    add-k
-    loop-less
-    loop-again
-    same-length
+    (tie.spec Inv-loop μ-loop loop-holds word-at-requires (λ c. search needs) (λ c. search needs) add-p (λ c. search needs) (λ c. omega arith) loop-again (λ c. search needs)
     returns)

@@ -31,21 +31,6 @@ slice-aggregate-test-2 c = sym (length-take-le _ _ (omega arith))
 slice-aggregate-test-3 : tie.Need-slice-aggregate-test-3
 slice-aggregate-test-3 c = sym (length-take-le _ _ (omega arith))
 
-test-requires : tie.Need-test-requires
-test-requires c κs = search needs
-
-enum-told : tie.Need-enum-told
-enum-told c = search needs
-
-enum-told-2 : tie.Need-enum-told-2
-enum-told-2 c = search needs
-
-enum-told-3 : tie.Need-enum-told-3
-enum-told-3 c = search needs
-
-enum-told-4 : tie.Need-enum-told-4
-enum-told-4 c = search needs
-
 returns : tie.Need-returns
 returns c = ap isSound (sym (c .enum-told .given .1)) ∙ found (c .before .before)
 
@@ -61,16 +46,5 @@ returns-4 c = ap isSound (sym (c .enum-told4 .given .1)) ∙ found (c .before .b
 pub beats-good-spec : {M : Type 1} → statement M
 beats-good-spec =
     tie.close
-    (tie.spec
-    slice-aggregate-test
-    slice-aggregate-test-2
-    slice-aggregate-test-3
-    test-requires
-    enum-told
-    enum-told-2
-    enum-told-3
-    enum-told-4
-    returns
-    returns-2
-    returns-3
-    returns-4)
+    (tie.spec slice-aggregate-test slice-aggregate-test-2 slice-aggregate-test-3 (λ c κs. search needs) (λ c. search needs) (λ c. search needs) (λ c. search needs)
+    (λ c. search needs) returns returns-2 returns-3 returns-4)

@@ -5,9 +5,6 @@ use Rattle.score_writer.proofs.Putting.{header-bytes, words-length, fil
 use Rattle.score_writer.proofs.file.parts.Statement.{statement}
 use Rattle.score_writer.proofs.file.parts.Tie as tie
 
-header-requires : tie.Need-header-requires
-header-requires c κs = search needs
-
 words-requires : tie.Need-words-requires
 words-requires c κs =
     let header = c .before .before .before in
@@ -20,9 +17,6 @@ points-requires c κs =
     let s = header .before .before .before .before .before .before in
     (omega (arith, header-bytes (s .args .score), header .header .ensures .next-is, words-length (s .args .meter .now), words .words .ensures .next-is), s .pre .3, s .pre .4)
 
-same-length : tie.Need-same-length
-same-length c = search needs
-
 returns : tie.Need-returns
 returns c =
     let points = c .before .before in
@@ -32,4 +26,5 @@ returns c =
     file-parts (a .score) (a .meter .now) (a .nums .now) (a .dens .now) (a .bpms .now) (header .header .ensures) (words .words .ensures) (points .points .ensures)
 
 pub parts-spec : {M : Type 1} → statement M
-parts-spec = tie.close (tie.spec header-requires words-requires points-requires same-length returns)
+parts-spec =
+    tie.close (tie.spec (λ c κs. search needs) words-requires points-requires (λ c. search needs) returns)

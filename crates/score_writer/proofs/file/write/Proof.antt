@@ -7,9 +7,6 @@ use lib.Seq.{length-take-le}
 use Rattle.score_writer.proofs.file.write.Statement.{statement}
 use Rattle.score_writer.proofs.file.write.Tie as tie
 
-mul-words : tie.Need-mul-words
-mul-words c = search needs
-
 slice-aggregate-parts : tie.Need-slice-aggregate-parts
 slice-aggregate-parts c = sym (length-take-le _ _ (omega arith))
 
@@ -33,21 +30,10 @@ parts-requires c κs =
     let b = length-take-le count (a .bpms .now) (omega arith) in
     (omega arith, s .pre .1, s .pre .2, d ∙ sym n, b ∙ sym n)
 
-same-length : tie.Need-same-length
-same-length c = search needs
-
 returns : tie.Need-returns
 returns c = c .before .before .parts .ensures
 
 pub write-spec : {M : Type 1} → statement M
 write-spec =
     tie.close
-    (tie.spec
-    mul-words
-    slice-aggregate-parts
-    slice-aggregate-parts-2
-    slice-aggregate-parts-3
-    slice-aggregate-parts-4
-    parts-requires
-    same-length
-    returns)
+    (tie.spec (λ c. search needs) slice-aggregate-parts slice-aggregate-parts-2 slice-aggregate-parts-3 slice-aggregate-parts-4 parts-requires (λ c. search needs) returns)

@@ -10,24 +10,6 @@ use Rattle.score_writer.proofs.Putting.{point-is}
 use Rattle.score_writer.proofs.words.point.Statement.{statement}
 use Rattle.score_writer.proofs.words.point.Tie as tie
 
-as-bits-requires : tie.Need-as-bits-requires
-as-bits-requires c κs = search needs
-
-cast-low : tie.Need-cast-low
-cast-low c = search needs
-
-cast-high : tie.Need-cast-high
-cast-high c = search needs
-
-slice-aggregate-words : tie.Need-slice-aggregate-words
-slice-aggregate-words c = search needs
-
-words-requires : tie.Need-words-requires
-words-requires c κs = search needs
-
-same-length : tie.Need-same-length
-same-length c = search needs
-
 returns : tie.Need-returns
 returns c =
     let put = c .before .before in
@@ -38,12 +20,4 @@ returns c =
 
 pub point-spec : {M : Type 1} → statement M
 point-spec =
-    tie.close
-    (tie.spec
-    as-bits-requires
-    cast-low
-    cast-high
-    slice-aggregate-words
-    words-requires
-    same-length
-    returns)
+    tie.close (tie.spec (λ c κs. search needs) (λ c. search needs) (λ c. search needs) (λ c. search needs) (λ c κs. search needs) (λ c. search needs) returns)

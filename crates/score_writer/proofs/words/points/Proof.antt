@@ -25,33 +25,6 @@ abbrev μ-loop : tie.MeasureT-loop
 loop-holds : tie.Need-loop-holds Inv-loop μ-loop
 loop-holds c = (omega arith, refl, omega arith, no-points _ _)
 
-mul-num : tie.Need-mul-num Inv-loop μ-loop
-mul-num c = search needs
-
-shared-slice-copy-out-num : tie.Need-shared-slice-copy-out-num Inv-loop μ-loop
-shared-slice-copy-out-num c = search needs
-
-mul-den : tie.Need-mul-den Inv-loop μ-loop
-mul-den c = search needs
-
-shared-slice-read-den : tie.Need-shared-slice-read-den Inv-loop μ-loop
-shared-slice-read-den c = search needs
-
-mul-point : tie.Need-mul-point Inv-loop μ-loop
-mul-point c = search needs
-
-shared-slice-read-point : tie.Need-shared-slice-read-point Inv-loop μ-loop
-shared-slice-read-point c = search needs
-
-point-requires : tie.Need-point-requires Inv-loop μ-loop
-point-requires c κs = omega arith
-
-add-k : tie.Need-add-k Inv-loop μ-loop
-add-k c = omega arith
-
-loop-less : tie.Need-loop-less Inv-loop μ-loop
-loop-less c = omega arith
-
 loop-again : tie.Need-loop-again Inv-loop μ-loop
 loop-again c =
     let turn = c .before .before in
@@ -65,9 +38,6 @@ loop-again c =
     let long = point-bytes _ _ _ more in
     (omega arith, omega arith, omega arith, next-point (a .nums .now) (a .dens .now) (a .bpms .now) k (s .pre .1) (s .pre .2) (omega arith) (omega arith) (l .loop .inv .3) here more)
 
-same-length : tie.Need-same-length Inv-loop μ-loop
-same-length c = search needs
-
 returns : tie.Need-returns Inv-loop μ-loop
 returns c =
     let l = c .before in
@@ -78,19 +48,5 @@ returns c =
 pub points-spec : {M : Type 1} → statement M
 points-spec =
     tie.close
-    (tie.spec
-    Inv-loop
-    μ-loop
-    loop-holds
-    mul-num
-    shared-slice-copy-out-num
-    mul-den
-    shared-slice-read-den
-    mul-point
-    shared-slice-read-point
-    point-requires
-    add-k
-    loop-less
-    loop-again
-    same-length
-    returns)
+    (tie.spec Inv-loop μ-loop loop-holds (λ c. search needs) (λ c. search needs) (λ c. search needs) (λ c. search needs) (λ c. search needs) (λ c. search needs)
+    (λ c κs. omega arith) (λ c. omega arith) (λ c. omega arith) loop-again (λ c. search needs) returns)

@@ -4,33 +4,6 @@ use Rattle.score_writer.proofs.Putting.{four-bytes}
 use Rattle.score_writer.proofs.words.word.Statement.{statement}
 use Rattle.score_writer.proofs.words.word.Tie as tie
 
-cast-byte : tie.Need-cast-byte
-cast-byte c = search needs
-
-byte-requires : tie.Need-byte-requires
-byte-requires c κs = search needs
-
-cast-byte-2 : tie.Need-cast-byte-2
-cast-byte-2 c = search needs
-
-byte-requires-2 : tie.Need-byte-requires-2
-byte-requires-2 c κs = search needs
-
-cast-byte-3 : tie.Need-cast-byte-3
-cast-byte-3 c = search needs
-
-byte-requires-3 : tie.Need-byte-requires-3
-byte-requires-3 c κs = search needs
-
-cast-byte-4 : tie.Need-cast-byte-4
-cast-byte-4 c = search needs
-
-byte-requires-4 : tie.Need-byte-requires-4
-byte-requires-4 c κs = search needs
-
-same-length : tie.Need-same-length
-same-length c = search needs
-
 returns : tie.Need-returns
 returns c =
     let fourth = c .before .before in
@@ -43,14 +16,5 @@ returns c =
 pub word-spec : {M : Type 1} → statement M
 word-spec =
     tie.close
-    (tie.spec
-    cast-byte
-    byte-requires
-    cast-byte-2
-    byte-requires-2
-    cast-byte-3
-    byte-requires-3
-    cast-byte-4
-    byte-requires-4
-    same-length
-    returns)
+    (tie.spec (λ c. search needs) (λ c κs. search needs) (λ c. search needs) (λ c κs. search needs) (λ c. search needs) (λ c κs. search needs) (λ c. search needs)
+    (λ c κs. search needs) (λ c. search needs) returns)

@@ -20,20 +20,8 @@ short c =
     let den : start .result .den < 2 ^ 32 = search needs in
     line-short _ _ _ (c .label .ok) num den (c .before .before .frame-at-bar .ok)
 
-start-requires : tie.Need-start-requires
-start-requires c κs = search needs
-
-frame-at-bar-requires : tie.Need-frame-at-bar-requires
-frame-at-bar-requires c κs = search needs
-
-label-requires : tie.Need-label-requires
-label-requires c κs = search needs
-
 line-requires : tie.Need-line-requires
 line-requires c κs = omega (arith, short c)
-
-same-length : tie.Need-same-length
-same-length c = search needs
 
 returns : tie.Need-returns
 returns c =
@@ -46,11 +34,4 @@ returns c =
 
 pub bar-line-spec : {M : Type 1} → statement M
 bar-line-spec =
-    tie.close
-    (tie.spec
-    start-requires
-    frame-at-bar-requires
-    label-requires
-    line-requires
-    same-length
-    returns)
+    tie.close (tie.spec (λ c κs. search needs) (λ c κs. search needs) (λ c κs. search needs) line-requires (λ c. search needs) returns)

@@ -25,12 +25,6 @@ loop-holds c = (omega arith, refl, omega arith, no-lines _ _ _ _ _)
 bar-line-requires : tie.Need-bar-line-requires Inv-loop μ-loop
 bar-line-requires c κs = (omega arith, c .before .before .before .before .before .before .before .pre .1)
 
-add-bar : tie.Need-add-bar Inv-loop μ-loop
-add-bar c = omega arith
-
-loop-less : tie.Need-loop-less Inv-loop μ-loop
-loop-less c = omega arith
-
 loop-again : tie.Need-loop-again Inv-loop μ-loop
 loop-again c =
     let turn = c .before .before in
@@ -38,9 +32,6 @@ loop-again c =
     let a = l .before .before .before .before .before .args in
     let next = next-line (a .t) (pointsOf (a .words .now)) (tempoPoints (a .nums .now) (a .dens .now) (a .tempos .now)) (l .loop .bar) (omega arith) (l .loop .inv .3) (turn .bar-line .ensures .0) in
     (omega arith, omega arith, omega (arith, turn .bar-line .ensures .1), next)
-
-same-length : tie.Need-same-length Inv-loop μ-loop
-same-length c = search needs
 
 returns : tie.Need-returns Inv-loop μ-loop
 returns c =
@@ -51,14 +42,4 @@ returns c =
 
 pub bar-lines-spec : {M : Type 1} → statement M
 bar-lines-spec =
-    tie.close
-    (tie.spec
-    Inv-loop
-    μ-loop
-    loop-holds
-    bar-line-requires
-    add-bar
-    loop-less
-    loop-again
-    same-length
-    returns)
+    tie.close (tie.spec Inv-loop μ-loop loop-holds bar-line-requires (λ c. omega arith) (λ c. omega arith) loop-again (λ c. search needs) returns)

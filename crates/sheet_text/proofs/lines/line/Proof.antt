@@ -37,9 +37,6 @@ byte-requires-3 c κs =
     let a = first .before .before .before .args in
     omega (arith, line-length (a .label) (a .start) (a .frame))
 
-same-length : tie.Need-same-length
-same-length c = search needs
-
 returns : tie.Need-returns
 returns c =
     let end = c .before .before in
@@ -54,13 +51,4 @@ returns c =
 
 pub line-spec : {M : Type 1} → statement M
 line-spec =
-    tie.close
-    (tie.spec
-    decimal-requires
-    byte-requires
-    beat-requires
-    byte-requires-2
-    decimal-requires-2
-    byte-requires-3
-    same-length
-    returns)
+    tie.close (tie.spec decimal-requires byte-requires beat-requires byte-requires-2 decimal-requires-2 byte-requires-3 (λ c. search needs) returns)

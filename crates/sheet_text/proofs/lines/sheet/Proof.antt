@@ -7,17 +7,8 @@ use Rattle.sheet_text.proofs.Rows.{sheet-put}
 use Rattle.sheet_text.proofs.lines.sheet.Statement.{statement}
 use Rattle.sheet_text.proofs.lines.sheet.Tie as tie
 
-slice-aggregate-bytes : tie.Need-slice-aggregate-bytes
-slice-aggregate-bytes c = search needs
-
-bytes-requires : tie.Need-bytes-requires
-bytes-requires c κs = search needs
-
 bar-lines-requires : tie.Need-bar-lines-requires
 bar-lines-requires c κs = (omega arith, c .before .before .before .before .before .before .before .before .before .before .pre .1)
-
-same-length : tie.Need-same-length
-same-length c = search needs
 
 returns : tie.Need-returns
 returns c =
@@ -29,10 +20,4 @@ returns c =
 
 pub sheet-spec : {M : Type 1} → statement M
 sheet-spec =
-    tie.close
-    (tie.spec
-    slice-aggregate-bytes
-    bytes-requires
-    bar-lines-requires
-    same-length
-    returns)
+    tie.close (tie.spec (λ c. search needs) (λ c κs. search needs) bar-lines-requires (λ c. search needs) returns)

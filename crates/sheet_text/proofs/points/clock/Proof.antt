@@ -6,16 +6,11 @@ use Rattle.transport.specs.Transports.{made}
 use Rattle.sheet_text.proofs.points.clock.Statement.{statement}
 use Rattle.sheet_text.proofs.points.clock.Tie as tie
 
-f32-of-requires : tie.Need-f32-of-requires
-f32-of-requires c κs = search needs
-
-fresh-requires : tie.Need-fresh-requires
-fresh-requires c κs = search needs
-
 returns : tie.Need-returns
 returns c =
     let s = c .before .before .args .score in
     c .fresh .ensures ∙ ap (λ (x : Float). made (s .rate) x (s .beats) 18446744073709551615 (s .pickup)) (c .before .f32-of .ensures)
 
 pub clock-spec : {M : Type 1} → statement M
-clock-spec = tie.close (tie.spec f32-of-requires fresh-requires returns)
+clock-spec =
+    tie.close (tie.spec (λ c κs. search needs) (λ c κs. search needs) returns)

@@ -6,9 +6,6 @@ use lib.Seq.{length-take-le}
 use Rattle.sheet_text.proofs.points.cut.Statement.{statement}
 use Rattle.sheet_text.proofs.points.cut.Tie as tie
 
-mul-sheet : tie.Need-mul-sheet
-mul-sheet c = search needs
-
 slice-aggregate-sheet : tie.Need-slice-aggregate-sheet
 slice-aggregate-sheet c = sym (length-take-le _ _ (omega arith))
 
@@ -27,21 +24,10 @@ sheet-requires c κs =
     let long = length-take-le _ _ (room .2) in
     (room .0, record { even-dens = length-take-le _ _ (room .3) ∙ sym long; even-tempos = length-take-le _ _ (room .4) ∙ sym long })
 
-same-length : tie.Need-same-length
-same-length c = search needs
-
 returns : tie.Need-returns
 returns c = c .before .before .sheet .ensures
 
 pub cut-spec : {M : Type 1} → statement M
 cut-spec =
     tie.close
-    (tie.spec
-    mul-sheet
-    slice-aggregate-sheet
-    slice-aggregate-sheet-2
-    slice-aggregate-sheet-3
-    slice-aggregate-sheet-4
-    sheet-requires
-    same-length
-    returns)
+    (tie.spec (λ c. search needs) slice-aggregate-sheet slice-aggregate-sheet-2 slice-aggregate-sheet-3 slice-aggregate-sheet-4 sheet-requires (λ c. search needs) returns)

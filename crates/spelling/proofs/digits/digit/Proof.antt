@@ -8,32 +8,17 @@ use Rattle.spelling.proofs.digits.digit.Tie as tie
 returns : tie.Need-returns
 returns c = before-0 _ (omega arith)
 
-cast-result : tie.Need-cast-result
-cast-result c = search needs
-
 returns-2 : tie.Need-returns-2
 returns-2 c = digit-0 _ (omega arith) (omega arith)
 
 returns-3 : tie.Need-returns-3
 returns-3 c = before-A _ (omega arith) (omega arith)
 
-sub-result : tie.Need-sub-result
-sub-result c = search needs
-
-cast-result-2 : tie.Need-cast-result-2
-cast-result-2 c = search needs
-
 returns-4 : tie.Need-returns-4
 returns-4 c = digit-A _ (omega arith) (omega arith)
 
 returns-5 : tie.Need-returns-5
 returns-5 c = before-a _ (omega arith) (omega arith)
-
-sub-result-2 : tie.Need-sub-result-2
-sub-result-2 c = search needs
-
-cast-result-3 : tie.Need-cast-result-3
-cast-result-3 c = search needs
 
 returns-6 : tie.Need-returns-6
 returns-6 c = digit-a _ (omega arith) (omega arith)
@@ -44,16 +29,5 @@ returns-7 c = behind-f _ (omega arith)
 pub digit-spec : {M : Type 1} → statement M
 digit-spec =
     tie.close
-    (tie.spec
-    returns
-    cast-result
-    returns-2
-    returns-3
-    sub-result
-    cast-result-2
-    returns-4
-    returns-5
-    sub-result-2
-    cast-result-3
-    returns-6
+    (tie.spec returns (λ c. search needs) returns-2 returns-3 (λ c. search needs) (λ c. search needs) returns-4 returns-5 (λ c. search needs) (λ c. search needs) returns-6
     returns-7)

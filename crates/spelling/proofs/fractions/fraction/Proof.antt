@@ -12,32 +12,11 @@ use Rattle.spelling.proofs.Ratios.{beat-is}
 use Rattle.spelling.proofs.fractions.fraction.Statement.{statement}
 use Rattle.spelling.proofs.fractions.fraction.Tie as tie
 
-until-requires : tie.Need-until-requires
-until-requires c κs = search needs
-
 slice-aggregate-numerator : tie.Need-slice-aggregate-numerator
 slice-aggregate-numerator c = sym (length-take-le _ _ (c .before .until .ensures .2))
 
-numerator-requires : tie.Need-numerator-requires
-numerator-requires c κs = search needs
-
-enum-told : tie.Need-enum-told
-enum-told c = search needs
-
-enum-known-num : tie.Need-enum-known-num
-enum-known-num c = search needs
-
 denominator-requires : tie.Need-denominator-requires
 denominator-requires c κs = c .before .before .before .before .before .until .ensures .2
-
-enum-told-2 : tie.Need-enum-told-2
-enum-told-2 c = search needs
-
-enum-known-den : tie.Need-enum-known-den
-enum-known-den c = search needs
-
-ratio-requires : tie.Need-ratio-requires
-ratio-requires c κs = search needs
 
 returns : tie.Need-returns
 returns c =
@@ -64,16 +43,5 @@ returns-3 c =
 pub fraction-spec : {M : Type 1} → statement M
 fraction-spec =
     tie.close
-    (tie.spec
-    until-requires
-    slice-aggregate-numerator
-    numerator-requires
-    enum-told
-    enum-known-num
-    denominator-requires
-    enum-told-2
-    enum-known-den
-    ratio-requires
-    returns
-    returns-2
-    returns-3)
+    (tie.spec (λ c κs. search needs) slice-aggregate-numerator (λ c κs. search needs) (λ c. search needs) (λ c. search needs) denominator-requires (λ c. search needs)
+    (λ c. search needs) (λ c κs. search needs) returns returns-2 returns-3)

@@ -11,36 +11,12 @@ use Rattle.spelling.proofs.fractions.numerator.Tie as tie
 returns : tie.Need-returns
 returns c = no-sign _ (c .if1 .taken)
 
-shared-slice-read-if2 : tie.Need-shared-slice-read-if2
-shared-slice-read-if2 c = search needs
-
-sub-some : tie.Need-sub-some
-sub-some c = search needs
-
-part-some-start : tie.Need-part-some-start
-part-some-start c = search needs
-
-part-some-end : tie.Need-part-some-end
-part-some-end c = search needs
-
-some-requires : tie.Need-some-requires
-some-requires c κs = search needs
-
-with-sign-requires : tie.Need-with-sign-requires
-with-sign-requires c κs = search needs
-
 returns-2 : tie.Need-returns-2
 returns-2 c =
     let word = c .before .before .before .before .before .before .before .args .word .now in
     c .with-sign .ensures
     ∙ ap (signedBy true) (c .before .some .ensures ∙ ap (someDigits 9223372036854775808) (part-rest 1 word))
     ∙ minus word (c .before .before .before .if2 .taken)
-
-some-requires-2 : tie.Need-some-requires-2
-some-requires-2 c κs = search needs
-
-with-sign-requires-2 : tie.Need-with-sign-requires-2
-with-sign-requires-2 c κs = search needs
 
 returns-3 : tie.Need-returns-3
 returns-3 c =
@@ -50,15 +26,5 @@ returns-3 c =
 pub numerator-spec : {M : Type 1} → statement M
 numerator-spec =
     tie.close
-    (tie.spec
-    returns
-    shared-slice-read-if2
-    sub-some
-    part-some-start
-    part-some-end
-    some-requires
-    with-sign-requires
-    returns-2
-    some-requires-2
-    with-sign-requires-2
-    returns-3)
+    (tie.spec returns (λ c. search needs) (λ c. search needs) (λ c. search needs) (λ c. search needs) (λ c κs. search needs) (λ c κs. search needs) returns-2 (λ c κs. search needs)
+    (λ c κs. search needs) returns-3)

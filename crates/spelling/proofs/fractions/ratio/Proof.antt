@@ -7,9 +7,6 @@ use Rattle.spelling.proofs.Ratios.{lowest-terms, not-lowest}
 use Rattle.spelling.proofs.fractions.ratio.Statement.{statement}
 use Rattle.spelling.proofs.fractions.ratio.Tie as tie
 
-is-beat-requires : tie.Need-is-beat-requires
-is-beat-requires c κs = search needs
-
 returns : tie.Need-returns
 returns c =
     let s = c .before .before in
@@ -21,4 +18,5 @@ returns-2 c =
     not-lowest (s .args .num) (s .args .den) _ (toZ-ofZ w64 (s .args .num) (s .fits .num)) (sym (c .before .is-beat .ensures) ∙ c .if1 .left)
 
 pub ratio-spec : {M : Type 1} → statement M
-ratio-spec = tie.close (tie.spec is-beat-requires returns returns-2)
+ratio-spec =
+    tie.close (tie.spec (λ c κs. search needs) returns returns-2)

@@ -8,22 +8,11 @@ use Rattle.spelling.specs.Words.{signedBy}
 use Rattle.spelling.proofs.fractions.with_sign.Statement.{statement}
 use Rattle.spelling.proofs.fractions.with_sign.Tie as tie
 
-enum-known-size : tie.Need-enum-known-size
-enum-known-size c = search needs
-
-signed-requires : tie.Need-signed-requires
-signed-requires c κs = search needs
-
-enum-told : tie.Need-enum-told
-enum-told c = search needs
-
 returns : tie.Need-returns
 returns c =
     ap S.Number (toZ-ofZ w64 (c .signed .result) (record { sfits = c .signed .ok }) ∙ c .signed .ensures)
     ∙ ap (signedBy (c .before .before .before .before .args .negative)) (sym (c .before .before .size .given .1))
 
-returns-2 : tie.Need-returns-2
-returns-2 c = search needs
-
 pub with-sign-spec : {M : Type 1} → statement M
-with-sign-spec = tie.close (tie.spec enum-known-size signed-requires enum-told returns returns-2)
+with-sign-spec =
+    tie.close (tie.spec (λ c. search needs) (λ c κs. search needs) (λ c. search needs) returns (λ c. search needs))

@@ -15,20 +15,8 @@ returns c = no-places _ _ (c .if1 .taken)
 returns-2 : tie.Need-returns-2
 returns-2 c = many-places _ _ (c .if2 .taken)
 
-behind-requires : tie.Need-behind-requires
-behind-requires c κs = search needs
-
-enum-known-n : tie.Need-enum-known-n
-enum-known-n c = search needs
-
 cast-over-ten : tie.Need-cast-over-ten
 cast-over-ten c = omega (arith, most _ _ _ _ _ (sym (c .before .n .given .1) ∙ c .before .before .before .behind .ensures))
-
-over-ten-requires : tie.Need-over-ten-requires
-over-ten-requires c κs = search needs
-
-enum-told : tie.Need-enum-told
-enum-told c = search needs
 
 returns-3 : tie.Need-returns-3
 returns-3 c =
@@ -43,14 +31,4 @@ returns-4 c =
 
 pub behind-point-spec : {M : Type 1} → statement M
 behind-point-spec =
-    tie.close
-    (tie.spec
-    returns
-    returns-2
-    behind-requires
-    enum-known-n
-    cast-over-ten
-    over-ten-requires
-    enum-told
-    returns-3
-    returns-4)
+    tie.close (tie.spec returns returns-2 (λ c κs. search needs) (λ c. search needs) cast-over-ten (λ c κs. search needs) (λ c. search needs) returns-3 returns-4)

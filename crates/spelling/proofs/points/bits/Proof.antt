@@ -8,17 +8,8 @@ use Rattle.spelling.proofs.Tempos.{bits-is}
 use Rattle.spelling.proofs.points.bits.Statement.{statement}
 use Rattle.spelling.proofs.points.bits.Tie as tie
 
-behind-requires : tie.Need-behind-requires
-behind-requires c κs = search needs
-
-enum-known-n : tie.Need-enum-known-n
-enum-known-n c = search needs
-
 cast-t5 : tie.Need-cast-t5
 cast-t5 c = omega (arith, most _ _ _ _ _ (sym (c .before .n .given .1) ∙ c .before .before .before .behind .ensures))
-
-enum-told : tie.Need-enum-told
-enum-told c = search needs
 
 returns : tie.Need-returns
 returns c = ap asBits (sym (c .before .n .given .1) ∙ c .before .before .before .behind .ensures) ∙ bits-is _
@@ -27,4 +18,5 @@ returns-2 : tie.Need-returns-2
 returns-2 c = ap asBits (sym (c .enum-told .given .1) ∙ c .before .before .behind .ensures) ∙ bits-is _
 
 pub bits-spec : {M : Type 1} → statement M
-bits-spec = tie.close (tie.spec behind-requires enum-known-n cast-t5 enum-told returns returns-2)
+bits-spec =
+    tie.close (tie.spec (λ c κs. search needs) (λ c. search needs) cast-t5 (λ c. search needs) returns returns-2)

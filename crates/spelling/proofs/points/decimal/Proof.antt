@@ -16,32 +16,8 @@ use Rattle.spelling.proofs.Tempos.{pointed, with-point, without-point, 
 use Rattle.spelling.proofs.points.decimal.Statement.{statement}
 use Rattle.spelling.proofs.points.decimal.Tie as tie
 
-until-requires : tie.Need-until-requires
-until-requires c κs = search needs
-
 slice-aggregate-some : tie.Need-slice-aggregate-some
 slice-aggregate-some c = sym (length-take-le _ _ (c .before .until .ensures .2))
-
-some-requires : tie.Need-some-requires
-some-requires c κs = search needs
-
-enum-told : tie.Need-enum-told
-enum-told c = search needs
-
-enum-known-front : tie.Need-enum-known-front
-enum-known-front c = search needs
-
-add-from : tie.Need-add-from
-add-from c = search needs
-
-sub-behind-point : tie.Need-sub-behind-point
-sub-behind-point c = search needs
-
-part-behind-point-start : tie.Need-part-behind-point-start
-part-behind-point-start c = search needs
-
-part-behind-point-end : tie.Need-part-behind-point-end
-part-behind-point-end c = search needs
 
 behind-point-requires : tie.Need-behind-point-requires
 behind-point-requires c κs =
@@ -52,9 +28,6 @@ cast-over-ten : tie.Need-cast-over-ten
 cast-over-ten c =
     let bound = c .before .before in
     omega (arith, some-most _ _ _ (sym (bound .front .given .1) ∙ bound .before .before .some .ensures))
-
-over-ten-requires : tie.Need-over-ten-requires
-over-ten-requires c κs = search needs
 
 returns : tie.Need-returns
 returns c =
@@ -86,19 +59,5 @@ returns-3 c =
 pub decimal-spec : {M : Type 1} → statement M
 decimal-spec =
     tie.close
-    (tie.spec
-    until-requires
-    slice-aggregate-some
-    some-requires
-    enum-told
-    enum-known-front
-    add-from
-    sub-behind-point
-    part-behind-point-start
-    part-behind-point-end
-    behind-point-requires
-    cast-over-ten
-    over-ten-requires
-    returns
-    returns-2
-    returns-3)
+    (tie.spec (λ c κs. search needs) slice-aggregate-some (λ c κs. search needs) (λ c. search needs) (λ c. search needs) (λ c. search needs) (λ c. search needs) (λ c. search needs)
+    (λ c. search needs) behind-point-requires cast-over-ten (λ c κs. search needs) returns returns-2 returns-3)

@@ -6,15 +6,6 @@ use lib.IntN.{pos}
 use Rattle.spelling.proofs.points.over_ten.Statement.{statement}
 use Rattle.spelling.proofs.points.over_ten.Tie as tie
 
-nearest-u32-to-f32-requires : tie.Need-nearest-u32-to-f32-requires
-nearest-u32-to-f32-requires c κs = search needs
-
-ten-to-requires : tie.Need-ten-to-requires
-ten-to-requires c κs = search needs
-
-f32-word-requires : tie.Need-f32-word-requires
-f32-word-requires c κs = search needs
-
 returns : tie.Need-returns
 returns c =
     let n = c .before .before .nearest-u32-to-f32 in
@@ -25,4 +16,4 @@ returns c =
 
 pub over-ten-spec : {M : Type 1} → statement M
 over-ten-spec =
-    tie.close (tie.spec nearest-u32-to-f32-requires ten-to-requires f32-word-requires returns)
+    tie.close (tie.spec (λ c κs. search needs) (λ c κs. search needs) (λ c κs. search needs) returns)

@@ -8,23 +8,11 @@ use Rattle.spelling.proofs.Tempos.{ten-bytes, by-bits, by-digits}
 use Rattle.spelling.proofs.points.tempo.Statement.{statement}
 use Rattle.spelling.proofs.points.tempo.Tie as tie
 
-is-bits-requires : tie.Need-is-bits-requires
-is-bits-requires c κs = search needs
-
 sub-bits : tie.Need-sub-bits
 sub-bits c = omega (arith, ten-bytes _ (sym (c .before .is-bits .ensures) ∙ c .if1 .taken))
 
 part-bits-start : tie.Need-part-bits-start
 part-bits-start c = omega (arith, ten-bytes _ (sym (c .before .is-bits .ensures) ∙ c .if1 .taken))
-
-part-bits-end : tie.Need-part-bits-end
-part-bits-end c = search needs
-
-bits-requires : tie.Need-bits-requires
-bits-requires c κs = search needs
-
-decimal-requires : tie.Need-decimal-requires
-decimal-requires c κs = search needs
 
 returns : tie.Need-returns
 returns c =
@@ -37,13 +25,4 @@ returns-2 c = c .decimal .ensures ∙ by-digits _ (sym (c .before .before .is-bi
 
 pub tempo-spec : {M : Type 1} → statement M
 tempo-spec =
-    tie.close
-    (tie.spec
-    is-bits-requires
-    sub-bits
-    part-bits-start
-    part-bits-end
-    bits-requires
-    decimal-requires
-    returns
-    returns-2)
+    tie.close (tie.spec (λ c κs. search needs) sub-bits part-bits-start (λ c. search needs) (λ c κs. search needs) (λ c κs. search needs) returns returns-2)

@@ -29,19 +29,10 @@ second-word c =
     let less : blanks .result < length (a .line .now) = omega (arith, blanks .ensures, c .before .if2 .left) in
     next-word (a .line .now) (c .before .before .before .word .result) (blanks .result) (c .word2 .result) (blanks .ensures .0) less (c .word2 .ensures .0)
 
-blanks-requires : tie.Need-blanks-requires
-blanks-requires c κs = search needs
-
 returns : tie.Need-returns
 returns c =
     let a = c .before .before .before .args in
     (found-none (a .line .now) (a .from) (no-word (a .line .now) (a .from) (c .before .blanks .result) (c .before .blanks .ensures .0) (c .if1 .taken)), omega arith)
-
-word-requires : tie.Need-word-requires
-word-requires c κs = omega arith
-
-blanks-requires-2 : tie.Need-blanks-requires-2
-blanks-requires-2 c κs = omega arith
 
 returns-2 : tie.Need-returns-2
 returns-2 c =
@@ -49,12 +40,6 @@ returns-2 c =
     let word = c .before .before in
     let none = no-word (a .line .now) (word .word .result) (c .before .blanks2 .result) (c .before .blanks2 .ensures .0) (c .if2 .taken) in
     (found-one (a .line .now) (a .from) (word .before .before .blanks .result) (word .word .result) (first-word word) none, (omega arith, omega arith))
-
-word-requires-2 : tie.Need-word-requires-2
-word-requires-2 c κs = omega arith
-
-blanks-requires-3 : tie.Need-blanks-requires-3
-blanks-requires-3 c κs = omega arith
 
 returns-3 : tie.Need-returns-3
 returns-3 c =
@@ -82,14 +67,4 @@ returns-4 c =
 
 pub words-spec : {M : Type 1} → statement M
 words-spec =
-    tie.close
-    (tie.spec
-    blanks-requires
-    returns
-    word-requires
-    blanks-requires-2
-    returns-2
-    word-requires-2
-    blanks-requires-3
-    returns-3
-    returns-4)
+    tie.close (tie.spec (λ c κs. search needs) returns (λ c κs. omega arith) (λ c κs. omega arith) returns-2 (λ c κs. omega arith) (λ c κs. omega arith) returns-3 returns-4)

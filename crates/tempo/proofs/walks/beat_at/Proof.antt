@@ -27,38 +27,11 @@ Inv-loop nums dens tempos seconds secs₀ from₀ tempo₀ i₀ secs from tempo 
 abbrev μ-loop : tie.MeasureT-loop
 μ-loop nums dens tempos seconds secs₀ from₀ tempo₀ i₀ secs from tempo i = length nums - i
 
-shared-slice-read-tempo-of : tie.Need-shared-slice-read-tempo-of Inv-loop μ-loop
-shared-slice-read-tempo-of c = search needs
-
-tempo-of-requires : tie.Need-tempo-of-requires Inv-loop μ-loop
-tempo-of-requires c κs = search needs
-
 loop-holds : tie.Need-loop-holds Inv-loop μ-loop
 unfolding ofBits
 loop-holds c =
     let s = c .before .before .before .before in
     begins (now (s .args .nums)) (now (s .args .dens)) (now (s .args .tempos)) (s .pre .1 .0) (s .pre .1 .1) (stop (s .args .seconds)) (final (s .args .seconds)) (s .pre .0) _ (c .tempo-of .ensures)
-
-mul-t13 : tie.Need-mul-t13 Inv-loop μ-loop
-mul-t13 c = search needs
-
-shared-slice-copy-out-t16 : tie.Need-shared-slice-copy-out-t16 Inv-loop μ-loop
-shared-slice-copy-out-t16 c = search needs
-
-mul-tempo-of : tie.Need-mul-tempo-of Inv-loop μ-loop
-mul-tempo-of c = search needs
-
-shared-slice-read-tempo-of-2 : tie.Need-shared-slice-read-tempo-of-2 Inv-loop μ-loop
-shared-slice-read-tempo-of-2 c = search needs
-
-float-of-requires : tie.Need-float-of-requires Inv-loop μ-loop
-float-of-requires c κs = search needs
-
-later-requires : tie.Need-later-requires Inv-loop μ-loop
-later-requires c κs = search needs
-
-beat-after-requires : tie.Need-beat-after-requires Inv-loop μ-loop
-beat-after-requires c κs = search needs
 
 returns : tie.Need-returns Inv-loop μ-loop
 returns c =
@@ -69,21 +42,6 @@ returns c =
     (l .secs) (l .from) (l .tempo) _ (l .inv) (c .before .before .before .before .before .before .loop-test .taken) _
     (toZ-ofZ w64 (getD (now (s .args .nums)) (l .i) (pos 0)) (record { sfits = c .before .before .before .before .before .t16 .given })) _
     (c .before .before .before .float-of .ensures) (rw (c .before .before .later .ensures) at (c .before .if1 .taken))
-
-mul-tempo-of-2 : tie.Need-mul-tempo-of-2 Inv-loop μ-loop
-mul-tempo-of-2 c = search needs
-
-shared-slice-read-tempo-of-3 : tie.Need-shared-slice-read-tempo-of-3 Inv-loop μ-loop
-shared-slice-read-tempo-of-3 c = search needs
-
-tempo-of-requires-2 : tie.Need-tempo-of-requires-2 Inv-loop μ-loop
-tempo-of-requires-2 c κs = search needs
-
-add-i : tie.Need-add-i Inv-loop μ-loop
-add-i c = search needs
-
-loop-less : tie.Need-loop-less Inv-loop μ-loop
-loop-less c = search needs
 
 loop-again : tie.Need-loop-again Inv-loop μ-loop
 loop-again c =
@@ -96,9 +54,6 @@ loop-again c =
     (toZ-ofZ w64 (getD (now (s .args .nums)) (l .i) (pos 0)) (record { sfits = c .before .before .before .before .before .before .t16 .given })) _
     (c .before .before .before .before .float-of .ensures) _ (c .tempo-of2 .ensures) (rw there at (c .before .before .if1 .left)))
 
-beat-after-requires-2 : tie.Need-beat-after-requires-2 Inv-loop μ-loop
-beat-after-requires-2 c κs = search needs
-
 returns-2 : tie.Need-returns-2 Inv-loop μ-loop
 returns-2 c =
     let s = c .before .before .before .before .before .before .before in
@@ -108,25 +63,6 @@ returns-2 c =
 pub beat-at-spec : {M : Type 1} → statement M
 beat-at-spec =
     tie.close
-    (tie.spec
-    Inv-loop
-    μ-loop
-    shared-slice-read-tempo-of
-    tempo-of-requires
-    loop-holds
-    mul-t13
-    shared-slice-copy-out-t16
-    mul-tempo-of
-    shared-slice-read-tempo-of-2
-    float-of-requires
-    later-requires
-    beat-after-requires
-    returns
-    mul-tempo-of-2
-    shared-slice-read-tempo-of-3
-    tempo-of-requires-2
-    add-i
-    loop-less
-    loop-again
-    beat-after-requires-2
-    returns-2)
+    (tie.spec Inv-loop μ-loop (λ c. search needs) (λ c κs. search needs) loop-holds (λ c. search needs) (λ c. search needs) (λ c. search needs) (λ c. search needs)
+    (λ c κs. search needs) (λ c κs. search needs) (λ c κs. search needs) returns (λ c. search needs) (λ c. search needs) (λ c κs. search needs) (λ c. search needs)
+    (λ c. search needs) loop-again (λ c κs. search needs) returns-2)

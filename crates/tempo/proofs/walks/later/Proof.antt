@@ -5,11 +5,9 @@ use borrow.Author.Needs.{needs}
 use Rattle.tempo.proofs.walks.later.Statement.{statement}
 use Rattle.tempo.proofs.walks.later.Tie as tie
 
-seconds-at-requires : tie.Need-seconds-at-requires
-seconds-at-requires c κs = search needs
-
 returns : tie.Need-returns
 returns c = ap (λ (x : Float). add binary64 (c .before .args .secs) x) (c .seconds-at .ensures)
 
 pub later-spec : {M : Type 1} → statement M
-later-spec = tie.close (tie.spec seconds-at-requires returns)
+later-spec =
+    tie.close (tie.spec (λ c κs. search needs) returns)

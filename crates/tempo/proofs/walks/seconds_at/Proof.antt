@@ -27,35 +27,11 @@ Inv-loop nums dens tempos beat secs₀ from₀ tempo₀ i₀ secs from tempo i =
 abbrev μ-loop : tie.MeasureT-loop
 μ-loop nums dens tempos beat secs₀ from₀ tempo₀ i₀ secs from tempo i = length nums - i
 
-shared-slice-read-tempo-of : tie.Need-shared-slice-read-tempo-of Inv-loop μ-loop
-shared-slice-read-tempo-of c = search needs
-
-tempo-of-requires : tie.Need-tempo-of-requires Inv-loop μ-loop
-tempo-of-requires c κs = search needs
-
 loop-holds : tie.Need-loop-holds Inv-loop μ-loop
 unfolding ofBits
 loop-holds c =
     let s = c .before .before .before .before in
     begins (now (s .args .nums)) (now (s .args .dens)) (now (s .args .tempos)) (s .pre .1 .0) (s .pre .1 .1) (stop (s .args .beat)) (final (s .args .beat)) (s .pre .0) _ (c .tempo-of .ensures)
-
-mul-t12 : tie.Need-mul-t12 Inv-loop μ-loop
-mul-t12 c = search needs
-
-shared-slice-copy-out-t15 : tie.Need-shared-slice-copy-out-t15 Inv-loop μ-loop
-shared-slice-copy-out-t15 c = search needs
-
-mul-tempo-of : tie.Need-mul-tempo-of Inv-loop μ-loop
-mul-tempo-of c = search needs
-
-shared-slice-read-tempo-of-2 : tie.Need-shared-slice-read-tempo-of-2 Inv-loop μ-loop
-shared-slice-read-tempo-of-2 c = search needs
-
-float-of-requires : tie.Need-float-of-requires Inv-loop μ-loop
-float-of-requires c κs = search needs
-
-later-requires : tie.Need-later-requires Inv-loop μ-loop
-later-requires c κs = search needs
 
 returns : tie.Need-returns Inv-loop μ-loop
 returns c =
@@ -67,24 +43,6 @@ returns c =
     (toZ-ofZ w64 (getD (now (s .args .nums)) (l .i) (pos 0)) (record { sfits = c .before .before .before .before .t15 .given })) _ (c .before .before .float-of .ensures)
     (c .before .if1 .taken)
 
-later-requires-2 : tie.Need-later-requires-2 Inv-loop μ-loop
-later-requires-2 c κs = search needs
-
-mul-tempo-of-2 : tie.Need-mul-tempo-of-2 Inv-loop μ-loop
-mul-tempo-of-2 c = search needs
-
-shared-slice-read-tempo-of-3 : tie.Need-shared-slice-read-tempo-of-3 Inv-loop μ-loop
-shared-slice-read-tempo-of-3 c = search needs
-
-tempo-of-requires-2 : tie.Need-tempo-of-requires-2 Inv-loop μ-loop
-tempo-of-requires-2 c κs = search needs
-
-add-i : tie.Need-add-i Inv-loop μ-loop
-add-i c = search needs
-
-loop-less : tie.Need-loop-less Inv-loop μ-loop
-loop-less c = search needs
-
 loop-again : tie.Need-loop-again Inv-loop μ-loop
 loop-again c =
     let s = c .before .before .before .before .before .before .before .before .before .before .before .before .before in
@@ -95,9 +53,6 @@ loop-again c =
     (toZ-ofZ w64 (getD (now (s .args .nums)) (l .i) (pos 0)) (record { sfits = c .before .before .before .before .before .before .t15 .given })) _
     (c .before .before .before .before .float-of .ensures) _ (c .tempo-of2 .ensures) (c .before .before .before .if1 .left))
 
-later-requires-3 : tie.Need-later-requires-3 Inv-loop μ-loop
-later-requires-3 c κs = search needs
-
 returns-2 : tie.Need-returns-2 Inv-loop μ-loop
 returns-2 c =
     let s = c .before .before .before .before .before .before .before in
@@ -107,25 +62,6 @@ returns-2 c =
 pub seconds-at-spec : {M : Type 1} → statement M
 seconds-at-spec =
     tie.close
-    (tie.spec
-    Inv-loop
-    μ-loop
-    shared-slice-read-tempo-of
-    tempo-of-requires
-    loop-holds
-    mul-t12
-    shared-slice-copy-out-t15
-    mul-tempo-of
-    shared-slice-read-tempo-of-2
-    float-of-requires
-    later-requires
-    returns
-    later-requires-2
-    mul-tempo-of-2
-    shared-slice-read-tempo-of-3
-    tempo-of-requires-2
-    add-i
-    loop-less
-    loop-again
-    later-requires-3
-    returns-2)
+    (tie.spec Inv-loop μ-loop (λ c. search needs) (λ c κs. search needs) loop-holds (λ c. search needs) (λ c. search needs) (λ c. search needs) (λ c. search needs)
+    (λ c κs. search needs) (λ c κs. search needs) returns (λ c κs. search needs) (λ c. search needs) (λ c. search needs) (λ c κs. search needs) (λ c. search needs)
+    (λ c. search needs) loop-again (λ c κs. search needs) returns-2)

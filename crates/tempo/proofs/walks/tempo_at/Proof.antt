@@ -28,31 +28,10 @@ Inv-loop nums dens tempos beat tempo₀ i₀ tempo i =
 abbrev μ-loop : tie.MeasureT-loop
 μ-loop nums dens tempos beat tempo₀ i₀ tempo i = length nums - i
 
-shared-slice-read-tempo-of : tie.Need-shared-slice-read-tempo-of Inv-loop μ-loop
-shared-slice-read-tempo-of c = search needs
-
-tempo-of-requires : tie.Need-tempo-of-requires Inv-loop μ-loop
-tempo-of-requires c κs = search needs
-
 loop-holds : tie.Need-loop-holds Inv-loop μ-loop
 loop-holds c =
     let s = c .before .before .before .before in
     (float0, float0, begins (now (s .args .nums)) (now (s .args .dens)) (now (s .args .tempos)) (s .pre .1 .0) (s .pre .1 .1) (stop (s .args .beat)) (final (s .args .beat)) (s .pre .0) _ (c .tempo-of .ensures))
-
-mul-t10 : tie.Need-mul-t10 Inv-loop μ-loop
-mul-t10 c = search needs
-
-shared-slice-copy-out-t13 : tie.Need-shared-slice-copy-out-t13 Inv-loop μ-loop
-shared-slice-copy-out-t13 c = search needs
-
-mul-tempo-of : tie.Need-mul-tempo-of Inv-loop μ-loop
-mul-tempo-of c = search needs
-
-shared-slice-read-tempo-of-2 : tie.Need-shared-slice-read-tempo-of-2 Inv-loop μ-loop
-shared-slice-read-tempo-of-2 c = search needs
-
-float-of-requires : tie.Need-float-of-requires Inv-loop μ-loop
-float-of-requires c κs = search needs
 
 returns : tie.Need-returns Inv-loop μ-loop
 returns c =
@@ -62,21 +41,6 @@ returns c =
     stops (now (s .args .nums)) (now (s .args .dens)) (now (s .args .tempos)) (s .pre .1 .0) (s .pre .1 .1) (stop (s .args .beat)) (final (s .args .beat)) (l .i) (v .0)
     (v .1) (l .tempo) _ (v .2) (c .before .before .before .before .loop-test .taken) _
     (toZ-ofZ w64 (getD (now (s .args .nums)) (l .i) (pos 0)) (record { sfits = c .before .before .before .t13 .given })) _ (c .before .float-of .ensures) (c .if1 .taken)
-
-mul-tempo-of-2 : tie.Need-mul-tempo-of-2 Inv-loop μ-loop
-mul-tempo-of-2 c = search needs
-
-shared-slice-read-tempo-of-3 : tie.Need-shared-slice-read-tempo-of-3 Inv-loop μ-loop
-shared-slice-read-tempo-of-3 c = search needs
-
-tempo-of-requires-2 : tie.Need-tempo-of-requires-2 Inv-loop μ-loop
-tempo-of-requires-2 c κs = search needs
-
-add-i : tie.Need-add-i Inv-loop μ-loop
-add-i c = search needs
-
-loop-less : tie.Need-loop-less Inv-loop μ-loop
-loop-less c = search needs
 
 loop-again : tie.Need-loop-again Inv-loop μ-loop
 loop-again c =
@@ -102,22 +66,5 @@ returns-2 c =
 pub tempo-at-spec : {M : Type 1} → statement M
 tempo-at-spec =
     tie.close
-    (tie.spec
-    Inv-loop
-    μ-loop
-    shared-slice-read-tempo-of
-    tempo-of-requires
-    loop-holds
-    mul-t10
-    shared-slice-copy-out-t13
-    mul-tempo-of
-    shared-slice-read-tempo-of-2
-    float-of-requires
-    returns
-    mul-tempo-of-2
-    shared-slice-read-tempo-of-3
-    tempo-of-requires-2
-    add-i
-    loop-less
-    loop-again
-    returns-2)
+    (tie.spec Inv-loop μ-loop (λ c. search needs) (λ c κs. search needs) loop-holds (λ c. search needs) (λ c. search needs) (λ c. search needs) (λ c. search needs)
+    (λ c κs. search needs) returns (λ c. search needs) (λ c. search needs) (λ c κs. search needs) (λ c. search needs) (λ c. search needs) loop-again returns-2)

@@ -6,18 +6,10 @@ use Rattle.rounding.specs.Floats.{maximum, float1}
 use Rattle.tempo.proofs.walks.tempo_of.Statement.{statement}
 use Rattle.tempo.proofs.walks.tempo_of.Tie as tie
 
-f32-of-requires : tie.Need-f32-of-requires
-f32-of-requires c κs = search needs
-
-widened-requires : tie.Need-widened-requires
-widened-requires c κs = search needs
-
-max-f64-requires : tie.Need-max-f64-requires
-max-f64-requires c κs = search needs
-
 returns : tie.Need-returns
 unfolding ofBits
 returns c = c .max-f64 .ensures ∙ ap (λ (x : Float). maximum x float1) (c .before .widened .ensures ∙ c .before .before .f32-of .ensures)
 
 pub tempo-of-spec : {M : Type 1} → statement M
-tempo-of-spec = tie.close (tie.spec f32-of-requires widened-requires max-f64-requires returns)
+tempo-of-spec =
+    tie.close (tie.spec (λ c κs. search needs) (λ c κs. search needs) (λ c κs. search needs) returns)

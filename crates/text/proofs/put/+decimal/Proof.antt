@@ -29,17 +29,8 @@ module _ (t : ℕ) where
   abbrev calls : lts.Claims
   calls = (byte-reads.Asked, byte-reads.Learnt, decimal-below, decimal.Post)
 
-  add-byte : lts.Need-add-byte calls decimal-at decimal.Post
-  add-byte c = search needs
-
-  cast-byte : lts.Need-cast-byte calls decimal-at decimal.Post
-  cast-byte c = search needs
-
   byte-requires : lts.Need-byte-requires calls decimal-at decimal.Post
   byte-requires c κs = omega (arith, digit-length (c .before .before .before .args .n) (c .before .if1 .taken))
-
-  same-length : lts.Need-same-length calls decimal-at decimal.Post
-  same-length c = search needs
 
   returns : lts.Need-returns calls decimal-at decimal.Post
   returns c =
@@ -49,19 +40,10 @@ module _ (t : ℕ) where
   decimal-requires : lts.Need-decimal-requires calls decimal-at decimal.Post
   decimal-requires c κs = (omega arith, omega (arith, digits-length (c .before .before .before .args .n) (c .before .if1 .left)))
 
-  add-byte-2 : lts.Need-add-byte-2 calls decimal-at decimal.Post
-  add-byte-2 c = search needs
-
-  cast-byte-2 : lts.Need-cast-byte-2 calls decimal-at decimal.Post
-  cast-byte-2 c = search needs
-
   byte-requires-2 : lts.Need-byte-requires-2 calls decimal-at decimal.Post
   byte-requires-2 c κs =
       let test = c .before .before .before .before .before in
       omega (arith, digits-length (test .before .before .args .n) (test .if1 .left))
-
-  same-length-2 : lts.Need-same-length-2 calls decimal-at decimal.Post
-  same-length-2 c = search needs
 
   returns-2 : lts.Need-returns-2 calls decimal-at decimal.Post
   returns-2 c =
@@ -72,17 +54,5 @@ module _ (t : ℕ) where
       retext (sym (more-digits (a .n) more)) (then room (first .decimal .ensures) (c .before .before .byte2 .ensures))
 
 pub +decimal-spec : {M : Type 1} → statement M
-+decimal-spec = close μ-decimal λ t. lts.spec (calls t)
-    (decimal-at t)
-    decimal.Post
-    (add-byte t)
-    (cast-byte t)
-    (byte-requires t)
-    (same-length t)
-    (returns t)
-    (decimal-requires t)
-    (add-byte-2 t)
-    (cast-byte-2 t)
-    (byte-requires-2 t)
-    (same-length-2 t)
-    (returns-2 t)
++decimal-spec = close μ-decimal λ t. lts.spec (calls t) (decimal-at t) decimal.Post (λ c. search needs) (λ c. search needs) (byte-requires t) (λ c. search needs) (returns t)
+    (decimal-requires t) (λ c. search needs) (λ c. search needs) (byte-requires-2 t) (λ c. search needs) (returns-2 t)

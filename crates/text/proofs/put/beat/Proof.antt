@@ -24,9 +24,6 @@ signed-requires c κs =
     let s = c .before .before .before in
     signed-room (s .args .b) _ (s .args .place) (length (s .args .out .now)) (held (c .before)) (s .pre)
 
-same-length : tie.Need-same-length
-same-length c = search needs
-
 returns : tie.Need-returns
 returns c =
     let known = c .before .before .before .before .before in
@@ -37,17 +34,11 @@ byte-requires c κs =
     let known = c .before .before .before .before .before .before in
     omega (arith, beat-length (known .before .before .args .b) (c .before .if1 .left), ap (λ (z : ℤ). length (signedText z)) (held known))
 
-cast-decimal : tie.Need-cast-decimal
-cast-decimal c = search needs
-
 decimal-requires : tie.Need-decimal-requires
 decimal-requires c κs =
     let test = c .before .before .before .before .before in
     let known = test .before .before .before .before .before in
     omega (arith, beat-length (known .before .before .args .b) (test .if1 .left), ap (λ (z : ℤ). length (signedText z)) (held known))
-
-same-length-2 : tie.Need-same-length-2
-same-length-2 c = search needs
 
 returns-2 : tie.Need-returns-2
 returns-2 c =
@@ -66,13 +57,4 @@ returns-2 c =
 
 pub beat-spec : {M : Type 1} → statement M
 beat-spec =
-    tie.close
-    (tie.spec
-    signed-requires
-    same-length
-    returns
-    byte-requires
-    cast-decimal
-    decimal-requires
-    same-length-2
-    returns-2)
+    tie.close (tie.spec signed-requires (λ c. search needs) returns byte-requires (λ c. search needs) decimal-requires (λ c. search needs) returns-2)

@@ -30,12 +30,6 @@ above c =
     signed-above (s .args .x) (sym (ap isNeg f) ∙ sym (c .before .negative .ensures) ∙ c .if1 .left)
     ∙ ap decimal (sym (c .before .before .magnitude .ensures ∙ ap natAbs f))
 
-magnitude-requires : tie.Need-magnitude-requires
-magnitude-requires c κs = search needs
-
-negative-requires : tie.Need-negative-requires
-negative-requires c κs = search needs
-
 byte-requires : tie.Need-byte-requires
 byte-requires c κs = omega (arith, ap length (below (c .before)))
 
@@ -45,9 +39,6 @@ decimal-requires c κs = omega (arith, ap length (below (c .before .before .befo
 decimal-requires-2 : tie.Need-decimal-requires-2
 decimal-requires-2 c κs = omega (arith, ap length (above (c .before)))
 
-same-length : tie.Need-same-length
-same-length c = search needs
-
 returns : tie.Need-returns
 returns c =
     let minus = c .before .before .before .before .before .before in
@@ -56,22 +47,9 @@ returns c =
     let room : a .place + 1 + length (decimal (test .before .before .magnitude .result)) ≤ length (a .out .now) = omega (arith, ap length (below test)) in
     retext (sym (below test)) (then room (minus .byte .ensures) (c .before .before .decimal .ensures))
 
-same-length-2 : tie.Need-same-length-2
-same-length-2 c = search needs
-
 returns-2 : tie.Need-returns-2
 returns-2 c = retext (sym (above (c .before .before .before .before))) (c .before .before .decimal2 .ensures)
 
 pub signed-spec : {M : Type 1} → statement M
 signed-spec =
-    tie.close
-    (tie.spec
-    magnitude-requires
-    negative-requires
-    byte-requires
-    decimal-requires
-    decimal-requires-2
-    same-length
-    returns
-    same-length-2
-    returns-2)
+    tie.close (tie.spec (λ c κs. search needs) (λ c κs. search needs) byte-requires decimal-requires decimal-requires-2 (λ c. search needs) returns (λ c. search needs) returns-2)

@@ -6,12 +6,6 @@ use Rattle.timeline.proofs.Tempos.{own-beats, map-beats}
 use Rattle.timeline.proofs.places.beats_of.Statement.{statement}
 use Rattle.timeline.proofs.places.beats_of.Tie as tie
 
-own-tempo-requires : tie.Need-own-tempo-requires
-own-tempo-requires c κs = search needs
-
-beat-at-requires : tie.Need-beat-at-requires
-beat-at-requires c κs = search needs
-
 returns : tie.Need-returns
 returns c =
     let s = c .before .before .before .before .args in rw (c .own-tempo .ensures) (own-beats (s .bpm) (now (s .nums)) (now (s .dens)) (now (s .tempos)) (c .before .if1 .taken) (s .seconds))
@@ -22,4 +16,5 @@ returns-2 c =
     rw (c .beat-at .ensures) (map-beats (s .args .bpm) (now (s .args .nums)) (now (s .args .dens)) (now (s .args .tempos)) (s .pre) (omega arith) (s .args .seconds))
 
 pub beats-of-spec : {M : Type 1} → statement M
-beats-of-spec = tie.close (tie.spec own-tempo-requires beat-at-requires returns returns-2)
+beats-of-spec =
+    tie.close (tie.spec (λ c κs. search needs) (λ c κs. search needs) returns returns-2)

@@ -8,17 +8,12 @@ use Rattle.timeline.proofs.places.current_bar.Tie as tie
 abbrev one-less : ℕ → ℕ
 one-less n = n - 1
 
-elapsed-requires : tie.Need-elapsed-requires
-elapsed-requires c κs = search needs
-
 returns : tie.Need-returns
 returns c = sym (ap one-less (c .if1 .taken)) ∙ ap one-less (c .before .elapsed .ensures)
-
-sub-result : tie.Need-sub-result
-sub-result c = search needs
 
 returns-2 : tie.Need-returns-2
 returns-2 c = ap one-less (c .before .elapsed .ensures)
 
 pub current-bar-spec : {M : Type 1} → statement M
-current-bar-spec = tie.close (tie.spec elapsed-requires sub-result returns returns-2)
+current-bar-spec =
+    tie.close (tie.spec (λ c κs. search needs) (λ c. search needs) returns returns-2)

@@ -6,14 +6,8 @@ use Rattle.timeline.proofs.Bars.{grid-of-none, grid-is, grid-near}
 use Rattle.timeline.proofs.places.grid_bar.Statement.{statement}
 use Rattle.timeline.proofs.places.grid_bar.Tie as tie
 
-add-result : tie.Need-add-result
-add-result c = search needs
-
 returns : tie.Need-returns
 returns c = let s = c .before .args in grid-of-none (s .bar) (s .every) (c .if1 .taken)
-
-div-result : tie.Need-div-result
-div-result c = search needs
 
 add-result-2 : tie.Need-add-result-2
 add-result-2 c = let s = c .before .args in omega (arith, div-le-self (s .bar) (s .every))
@@ -26,4 +20,4 @@ returns-2 c = let s = c .before .args in grid-is (s .bar) (s .every) (omega arit
 
 pub grid-bar-spec : {M : Type 1} → statement M
 grid-bar-spec =
-    tie.close (tie.spec add-result returns div-result add-result-2 mul-result returns-2)
+    tie.close (tie.spec (λ c. search needs) returns (λ c. search needs) add-result-2 mul-result returns-2)

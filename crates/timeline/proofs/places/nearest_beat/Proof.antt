@@ -9,12 +9,6 @@ use Rattle.timeline.specs.Places.{nearestBeat}
 use Rattle.timeline.proofs.places.nearest_beat.Statement.{statement}
 use Rattle.timeline.proofs.places.nearest_beat.Tie as tie
 
-round-to-i64-requires : tie.Need-round-to-i64-requires
-round-to-i64-requires c κs = search needs
-
-new-requires : tie.Need-new-requires
-new-requires c κs = search needs
-
 returns : tie.Need-returns
 unfolding nearestBeat
 returns c =
@@ -22,4 +16,5 @@ returns c =
     ∙ ap (λ (n : ℤ). newBeat n 1000000000) (toZ-ofZ w64 (c .before .round-to-i64 .result) (record { sfits = c .before .round-to-i64 .ok }) ∙ c .before .round-to-i64 .ensures)
 
 pub nearest-beat-spec : {M : Type 1} → statement M
-nearest-beat-spec = tie.close (tie.spec round-to-i64-requires new-requires returns)
+nearest-beat-spec =
+    tie.close (tie.spec (λ c κs. search needs) (λ c κs. search needs) returns)

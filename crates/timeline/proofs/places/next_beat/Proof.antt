@@ -4,19 +4,10 @@ use borrow.Author.Needs.{needs}
 use Rattle.timeline.proofs.places.next_beat.Statement.{statement}
 use Rattle.timeline.proofs.places.next_beat.Tie as tie
 
-position-beats-requires : tie.Need-position-beats-requires
-position-beats-requires c κs = search needs
-
-floor-requires : tie.Need-floor-requires
-floor-requires c κs = search needs
-
-frame-at-beat-requires : tie.Need-frame-at-beat-requires
-frame-at-beat-requires c κs = search needs
-
 returns : tie.Need-returns
 unfolding ofBits
 returns c = rw (c .frame-at-beat .ensures, c .before .floor .ensures, c .before .before .position-beats .ensures)
 
 pub next-beat-spec : {M : Type 1} → statement M
 next-beat-spec =
-    tie.close (tie.spec position-beats-requires floor-requires frame-at-beat-requires returns)
+    tie.close (tie.spec (λ c κs. search needs) (λ c κs. search needs) (λ c κs. search needs) returns)

@@ -4,15 +4,10 @@ use borrow.Author.Needs.{needs}
 use Rattle.timeline.proofs.places.own_tempo.Statement.{statement}
 use Rattle.timeline.proofs.places.own_tempo.Tie as tie
 
-widened-requires : tie.Need-widened-requires
-widened-requires c κs = search needs
-
-max-f64-requires : tie.Need-max-f64-requires
-max-f64-requires c κs = search needs
-
 returns : tie.Need-returns
 unfolding ofBits
 returns c = rw (c .max-f64 .ensures, c .before .widened .ensures)
 
 pub own-tempo-spec : {M : Type 1} → statement M
-own-tempo-spec = tie.close (tie.spec widened-requires max-f64-requires returns)
+own-tempo-spec =
+    tie.close (tie.spec (λ c κs. search needs) (λ c κs. search needs) returns)

@@ -7,24 +7,9 @@ use Rattle.timeline.proofs.Bars.{lasts}
 use Rattle.timeline.proofs.places.part_of.Statement.{statement}
 use Rattle.timeline.proofs.places.part_of.Tie as tie
 
-zero-requires : tie.Need-zero-requires
-zero-requires c κs = search needs
-
-below-requires : tie.Need-below-requires
-below-requires c κs = search needs
-
 returns : tie.Need-returns
 unfolding within ofBits
 returns c = let d = c .before in rw (lasts (d .before .before .args .len) _ _ _ (d .before .zero .ensures) (d .below .ensures) (not-true _ (c .if1 .taken)))
-
-float-of-requires : tie.Need-float-of-requires
-float-of-requires c κs = search needs
-
-float-of-requires-2 : tie.Need-float-of-requires-2
-float-of-requires-2 c κs = search needs
-
-float-of-requires-3 : tie.Need-float-of-requires-3
-float-of-requires-3 c κs = search needs
 
 returns-2 : tie.Need-returns-2
 unfolding within
@@ -35,12 +20,4 @@ returns-2 c =
 
 pub part-of-spec : {M : Type 1} → statement M
 part-of-spec =
-    tie.close
-    (tie.spec
-    zero-requires
-    below-requires
-    returns
-    float-of-requires
-    float-of-requires-2
-    float-of-requires-3
-    returns-2)
+    tie.close (tie.spec (λ c κs. search needs) (λ c κs. search needs) returns (λ c κs. search needs) (λ c κs. search needs) (λ c κs. search needs) returns-2)

@@ -7,30 +7,6 @@ use Rattle.timeline.proofs.Bars.{bars-are}
 use Rattle.timeline.proofs.places.position_bars.Statement.{statement}
 use Rattle.timeline.proofs.places.position_bars.Tie as tie
 
-position-beats-requires : tie.Need-position-beats-requires
-position-beats-requires c κs = search needs
-
-nearest-beat-requires : tie.Need-nearest-beat-requires
-nearest-beat-requires c κs = search needs
-
-current-bar-requires : tie.Need-current-bar-requires
-current-bar-requires c κs = search needs
-
-start-requires : tie.Need-start-requires
-start-requires c κs = search needs
-
-length-requires : tie.Need-length-requires
-length-requires c κs = search needs
-
-int-to-float-result : tie.Need-int-to-float-result
-int-to-float-result c = search needs
-
-part-of-requires : tie.Need-part-of-requires
-part-of-requires c κs = search needs
-
-clamp-f64-requires : tie.Need-clamp-f64-requires
-clamp-f64-requires c κs = search needs
-
 returns : tie.Need-returns
 unfolding ofBits
 returns c =
@@ -48,13 +24,5 @@ returns c =
 pub position-bars-spec : {M : Type 1} → statement M
 position-bars-spec =
     tie.close
-    (tie.spec
-    position-beats-requires
-    nearest-beat-requires
-    current-bar-requires
-    start-requires
-    length-requires
-    int-to-float-result
-    part-of-requires
-    clamp-f64-requires
-    returns)
+    (tie.spec (λ c κs. search needs) (λ c κs. search needs) (λ c κs. search needs) (λ c κs. search needs) (λ c κs. search needs) (λ c. search needs) (λ c κs. search needs)
+    (λ c κs. search needs) returns)

@@ -6,15 +6,6 @@ use Rattle.timeline.proofs.Tempos.{own-seconds, map-seconds}
 use Rattle.timeline.proofs.places.seconds_of.Statement.{statement}
 use Rattle.timeline.proofs.places.seconds_of.Tie as tie
 
-own-tempo-requires : tie.Need-own-tempo-requires
-own-tempo-requires c κs = search needs
-
-seconds-at-requires : tie.Need-seconds-at-requires
-seconds-at-requires c κs = search needs
-
-seconds-at-requires-2 : tie.Need-seconds-at-requires-2
-seconds-at-requires-2 c κs = search needs
-
 returns : tie.Need-returns
 returns c =
     let s = c .before .before .before .before .before .args in
@@ -27,5 +18,4 @@ returns-2 c =
 
 pub seconds-of-spec : {M : Type 1} → statement M
 seconds-of-spec =
-    tie.close
-    (tie.spec own-tempo-requires seconds-at-requires seconds-at-requires-2 returns returns-2)
+    tie.close (tie.spec (λ c κs. search needs) (λ c κs. search needs) (λ c κs. search needs) returns returns-2)

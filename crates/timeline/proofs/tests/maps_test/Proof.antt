@@ -7,24 +7,9 @@ use Rattle.timeline.specs.Tests.{tested, worse, testOf, mapsTest}
 use Rattle.timeline.proofs.tests.maps_test.Statement.{statement}
 use Rattle.timeline.proofs.tests.maps_test.Tie as tie
 
-is-sound-requires : tie.Need-is-sound-requires
-is-sound-requires c κs = search needs
-
 returns : tie.Need-returns
 unfolding testOf
 returns c = rw (sym (c .before .is-sound .ensures) ∙ not-true _ (c .if1 .taken))
-
-words-test-requires : tie.Need-words-test-requires
-words-test-requires c κs = search needs
-
-test-requires : tie.Need-test-requires
-test-requires c κs = search needs
-
-worse-requires : tie.Need-worse-requires
-worse-requires c κs = search needs
-
-found-requires : tie.Need-found-requires
-found-requires c κs = search needs
 
 returns-2 : tie.Need-returns-2
 unfolding testOf mapsTest
@@ -34,12 +19,4 @@ returns-2 c =
 
 pub maps-test-spec : {M : Type 1} → statement M
 maps-test-spec =
-    tie.close
-    (tie.spec
-    is-sound-requires
-    returns
-    words-test-requires
-    test-requires
-    worse-requires
-    found-requires
-    returns-2)
+    tie.close (tie.spec (λ c κs. search needs) returns (λ c κs. search needs) (λ c κs. search needs) (λ c κs. search needs) (λ c κs. search needs) returns-2)

@@ -7,18 +7,9 @@ use Rattle.timeline.specs.Tests.{tested, testOf}
 use Rattle.timeline.proofs.tests.tempo_test.Statement.{statement}
 use Rattle.timeline.proofs.tests.tempo_test.Tie as tie
 
-is-sound-requires : tie.Need-is-sound-requires
-is-sound-requires c κs = search needs
-
 returns : tie.Need-returns
 unfolding testOf
 returns c = rw (sym (c .before .is-sound .ensures) ∙ not-true _ (c .if1 .taken))
-
-test-requires : tie.Need-test-requires
-test-requires c κs = search needs
-
-found-requires : tie.Need-found-requires
-found-requires c κs = search needs
 
 returns-2 : tie.Need-returns-2
 unfolding testOf
@@ -26,4 +17,4 @@ returns-2 c = rw (sym (c .before .before .before .is-sound .ensures) ∙ not-fal
 
 pub tempo-test-spec : {M : Type 1} → statement M
 tempo-test-spec =
-    tie.close (tie.spec is-sound-requires returns test-requires found-requires returns-2)
+    tie.close (tie.spec (λ c κs. search needs) returns (λ c κs. search needs) (λ c κs. search needs) returns-2)

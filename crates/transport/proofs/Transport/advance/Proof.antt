@@ -7,9 +7,6 @@ use Rattle.transport.proofs.Cases.{advance-unfit, advance-fit}
 use Rattle.transport.proofs.Transport.advance.Statement.{statement}
 use Rattle.transport.proofs.Transport.advance.Tie as tie
 
-is-sound-requires : tie.Need-is-sound-requires
-is-sound-requires c κs = search needs
-
 returns : tie.Need-returns
 returns c =
     let s = c .before .before in
@@ -25,4 +22,5 @@ returns-2 c =
     ap movesOf (c .before .advanced .ensures) ∙ advance-fit (s .args .self) (s .args .frames) (sym (b .before .is-sound .ensures) ∙ not-false _ (b .if1 .left))
 
 pub advance-spec : {M : Type 1} → statement M
-advance-spec = tie.close (tie.spec is-sound-requires returns advanced-requires returns-2)
+advance-spec =
+    tie.close (tie.spec (λ c κs. search needs) returns advanced-requires returns-2)

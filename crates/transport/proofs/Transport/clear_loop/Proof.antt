@@ -7,14 +7,9 @@ use Rattle.transport.specs.Changes.{ifSound}
 use Rattle.transport.proofs.Transport.clear_loop.Statement.{statement}
 use Rattle.transport.proofs.Transport.clear_loop.Tie as tie
 
-with-loop-requires : tie.Need-with-loop-requires
-with-loop-requires c κs = search needs
-
-if-sound-requires : tie.Need-if-sound-requires
-if-sound-requires c κs = search needs
-
 returns : tie.Need-returns
 returns c = c .if-sound .ensures ∙ ap (λ (new : Transport). ifSound (c .before .before .args .self) (accepted new)) (c .before .with-loop .ensures)
 
 pub clear-loop-spec : {M : Type 1} → statement M
-clear-loop-spec = tie.close (tie.spec with-loop-requires if-sound-requires returns)
+clear-loop-spec =
+    tie.close (tie.spec (λ c κs. search needs) (λ c κs. search needs) returns)

@@ -5,15 +5,6 @@ use Rattle.transport.specs.Transports.{playing}
 use Rattle.transport.proofs.Transport.is_playing.Statement.{statement}
 use Rattle.transport.proofs.Transport.is_playing.Tie as tie
 
-enum-told : tie.Need-enum-told
-enum-told c = search needs
-
-enum-told-2 : tie.Need-enum-told-2
-enum-told-2 c = search needs
-
-enum-told-3 : tie.Need-enum-told-3
-enum-told-3 c = search needs
-
 returns : tie.Need-returns
 returns c = sym (ap playing (c .enum-told .given .1))
 
@@ -24,4 +15,5 @@ returns-3 : tie.Need-returns-3
 returns-3 c = sym (ap playing (c .enum-told3 .given .1))
 
 pub is-playing-spec : {M : Type 1} → statement M
-is-playing-spec = tie.close (tie.spec enum-told enum-told-2 enum-told-3 returns returns-2 returns-3)
+is-playing-spec =
+    tie.close (tie.spec (λ c. search needs) (λ c. search needs) (λ c. search needs) returns returns-2 returns-3)

@@ -11,15 +11,9 @@ returns : tie.Need-returns
 unfolding sound
 returns c = let t = c .before .before .args .self in simp (lt-leb (t .position) (t .length) (omega arith))
 
-sound-loop-requires : tie.Need-sound-loop-requires
-sound-loop-requires c κs = search needs
-
 returns-2 : tie.Need-returns-2
 unfolding sound
 returns-2 c = simp (le-leb _ _ (c .before .before .if1 .left), sym (c .before .sound-loop .ensures) ∙ not-true _ (c .if2 .taken))
-
-is-sound-requires : tie.Need-is-sound-requires
-is-sound-requires c κs = search needs
 
 returns-3 : tie.Need-returns-3
 unfolding sound
@@ -29,4 +23,4 @@ returns-3 c =
 
 pub is-sound-spec : {M : Type 1} → statement M
 is-sound-spec =
-    tie.close (tie.spec returns sound-loop-requires returns-2 is-sound-requires returns-3)
+    tie.close (tie.spec returns (λ c κs. search needs) returns-2 (λ c κs. search needs) returns-3)

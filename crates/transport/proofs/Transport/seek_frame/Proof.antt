@@ -7,14 +7,9 @@ use Rattle.transport.specs.Changes.{ifSound}
 use Rattle.transport.proofs.Transport.seek_frame.Statement.{statement}
 use Rattle.transport.proofs.Transport.seek_frame.Tie as tie
 
-sought-requires : tie.Need-sought-requires
-sought-requires c κs = search needs
-
-if-sound-requires : tie.Need-if-sound-requires
-if-sound-requires c κs = search needs
-
 returns : tie.Need-returns
 returns c = c .if-sound .ensures ∙ ap (λ (new : Transport). ifSound (c .before .before .args .self) (accepted new)) (c .before .sought .ensures)
 
 pub seek-frame-spec : {M : Type 1} → statement M
-seek-frame-spec = tie.close (tie.spec sought-requires if-sound-requires returns)
+seek-frame-spec =
+    tie.close (tie.spec (λ c κs. search needs) (λ c κs. search needs) returns)

@@ -7,19 +7,10 @@ use Rattle.transport.proofs.Cases.{unfit, fit}
 use Rattle.transport.proofs.Transport.set_loop_frames.Statement.{statement}
 use Rattle.transport.proofs.Transport.set_loop_frames.Tie as tie
 
-is-sound-requires : tie.Need-is-sound-requires
-is-sound-requires c κs = search needs
-
-unsound-requires : tie.Need-unsound-requires
-unsound-requires c κs = search needs
-
 returns : tie.Need-returns
 returns c =
     let s = c .before .before in
     ap readChanged (c .unsound .ensures) ∙ unfit (s .before .args .self) _ (sym (s .is-sound .ensures) ∙ not-true _ (c .before .if1 .taken))
-
-looped-requires : tie.Need-looped-requires
-looped-requires c κs = search needs
 
 returns-2 : tie.Need-returns-2
 returns-2 c =
@@ -28,4 +19,4 @@ returns-2 c =
 
 pub set-loop-frames-spec : {M : Type 1} → statement M
 set-loop-frames-spec =
-    tie.close (tie.spec is-sound-requires unsound-requires returns looped-requires returns-2)
+    tie.close (tie.spec (λ c κs. search needs) (λ c κs. search needs) returns (λ c κs. search needs) returns-2)

@@ -5,13 +5,11 @@ use Rattle.transport.specs.declared.LoopRange.the-variants.{Off}
 use Rattle.transport.proofs.change.fresh.Statement.{statement}
 use Rattle.transport.proofs.change.fresh.Tie as tie
 
-larger-requires : tie.Need-larger-requires
-larger-requires c κs = search needs
-
 returns : tie.Need-returns
 returns c =
     let a = c .before .args in
     λ i. record { «sample_rate» = a .rate; bpm = a .bpm; «beats_per_bar» = c .larger .ensures i; length = a .length; position = 0; state = Stopped; looping = Off; pickup = a .pickup }
 
 pub fresh-spec : {M : Type 1} → statement M
-fresh-spec = tie.close (tie.spec larger-requires returns)
+fresh-spec =
+    tie.close (tie.spec (λ c κs. search needs) returns)

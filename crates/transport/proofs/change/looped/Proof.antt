@@ -6,22 +6,10 @@ use Rattle.transport.specs.Readings.{readChanged}
 use Rattle.transport.proofs.change.looped.Statement.{statement}
 use Rattle.transport.proofs.change.looped.Tie as tie
 
-with-loop-requires : tie.Need-with-loop-requires
-with-loop-requires c κs = search needs
-
-good-loop-requires : tie.Need-good-loop-requires
-good-loop-requires c κs = search needs
-
-refused-requires : tie.Need-refused-requires
-refused-requires c κs = search needs
-
 returns : tie.Need-returns
 returns c =
     let s = c .before .before in
     ap readChanged (c .refused .ensures) ∙ simp (sym (s .good-loop .ensures) ∙ not-true _ (c .before .if1 .taken))
-
-done-requires : tie.Need-done-requires
-done-requires c κs = search needs
 
 returns-2 : tie.Need-returns-2
 returns-2 c =
@@ -30,11 +18,4 @@ returns-2 c =
 
 pub looped-spec : {M : Type 1} → statement M
 looped-spec =
-    tie.close
-    (tie.spec
-    with-loop-requires
-    good-loop-requires
-    refused-requires
-    returns
-    done-requires
-    returns-2)
+    tie.close (tie.spec (λ c κs. search needs) (λ c κs. search needs) (λ c κs. search needs) returns (λ c κs. search needs) returns-2)

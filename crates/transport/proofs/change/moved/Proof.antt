@@ -3,12 +3,6 @@ use borrow.Author.Needs.{needs}
 use Rattle.transport.proofs.change.moved.Statement.{statement}
 use Rattle.transport.proofs.change.moved.Tie as tie
 
-loop-anew-requires : tie.Need-loop-anew-requires
-loop-anew-requires c κs = search needs
-
-pickup-anew-requires : tie.Need-pickup-anew-requires
-pickup-anew-requires c κs = search needs
-
 returns : tie.Need-returns
 returns c =
     let s = c .before .before .args in
@@ -24,4 +18,5 @@ returns c =
     }
 
 pub moved-spec : {M : Type 1} → statement M
-moved-spec = tie.close (tie.spec loop-anew-requires pickup-anew-requires returns)
+moved-spec =
+    tie.close (tie.spec (λ c κs. search needs) (λ c κs. search needs) returns)

@@ -7,15 +7,6 @@ use borrow.Author.Needs.{needs}
 use Rattle.transport.proofs.change.pickup_anew.Statement.{statement}
 use Rattle.transport.proofs.change.pickup_anew.Tie as tie
 
-enum-told : tie.Need-enum-told
-enum-told c = search needs
-
-enum-known-pickup : tie.Need-enum-known-pickup
-enum-known-pickup c = search needs
-
-returns : tie.Need-returns
-returns c = search needs
-
 returns-2 : tie.Need-returns-2
 returns-2 c =
     let given = c .before .before .pickup .given in
@@ -23,4 +14,5 @@ returns-2 c =
     (λ i. Present (record { num = toZ-ofZ w64 (beat .num) (record { sfits = c .struct-told .given .0 .1 }) i; den = beat .den })) ∙ sym (given .1)
 
 pub pickup-anew-spec : {M : Type 1} → statement M
-pickup-anew-spec = tie.close (tie.spec enum-told enum-known-pickup returns returns-2)
+pickup-anew-spec =
+    tie.close (tie.spec (λ c. search needs) (λ c. search needs) (λ c. search needs) returns-2)

@@ -8,9 +8,6 @@ use Rattle.transport.specs.Transports.{movedTo}
 use Rattle.transport.proofs.change.sought.Statement.{statement}
 use Rattle.transport.proofs.change.sought.Tie as tie
 
-moved-requires : tie.Need-moved-requires
-moved-requires c κs = search needs
-
 returns : tie.Need-returns
 returns c =
     let s = c .before .before .before .args in
@@ -18,4 +15,5 @@ returns c =
     c .moved .ensures ∙ ap (λ (n : ℕ). movedTo (s .t) n (s .t .state)) nearer
 
 pub sought-spec : {M : Type 1} → statement M
-sought-spec = tie.close (tie.spec moved-requires returns)
+sought-spec =
+    tie.close (tie.spec (λ c κs. search needs) returns)

@@ -5,12 +5,6 @@ use Rattle.transport.specs.Advances.{advanced}
 use Rattle.transport.proofs.playhead.advanced.Statement.{statement}
 use Rattle.transport.proofs.playhead.advanced.Tie as tie
 
-is-playing-requires : tie.Need-is-playing-requires
-is-playing-requires c κs = search needs
-
-play-on-requires : tie.Need-play-on-requires
-play-on-requires c κs = search needs
-
 returns : tie.Need-returns
 unfolding advanced
 returns c = c .play-on .ensures ∙ simp (sym (c .before .before .is-playing .ensures) ∙ c .before .if1 .taken)
@@ -20,4 +14,5 @@ unfolding advanced
 returns-2 c = simp (sym (c .before .is-playing .ensures) ∙ c .if1 .left)
 
 pub advanced-spec : {M : Type 1} → statement M
-advanced-spec = tie.close (tie.spec is-playing-requires play-on-requires returns returns-2)
+advanced-spec =
+    tie.close (tie.spec (λ c κs. search needs) (λ c κs. search needs) returns returns-2)

@@ -5,17 +5,12 @@ use Rattle.transport.proofs.Loops.{sound-loop}
 use Rattle.transport.proofs.playhead.play_on.Statement.{statement}
 use Rattle.transport.proofs.playhead.play_on.Tie as tie
 
-saturating-add-requires : tie.Need-saturating-add-requires
-saturating-add-requires c κs = search needs
-
 stand-requires : tie.Need-stand-requires
 stand-requires c κs = sound-loop (c .before .args .t) (c .before .pre)
-
-arrive-requires : tie.Need-arrive-requires
-arrive-requires c κs = search needs
 
 returns : tie.Need-returns
 returns c = c .arrive .ensures ∙ rw (c .before .stand .ensures, c .before .before .saturating-add .ensures)
 
 pub play-on-spec : {M : Type 1} → statement M
-play-on-spec = tie.close (tie.spec saturating-add-requires stand-requires arrive-requires returns)
+play-on-spec =
+    tie.close (tie.spec (λ c κs. search needs) stand-requires (λ c κs. search needs) returns)

@@ -7,15 +7,6 @@ use Rattle.transport.proofs.Loops.{on-sound, fold-lt}
 use Rattle.transport.proofs.playhead.stand.Statement.{statement}
 use Rattle.transport.proofs.playhead.stand.Tie as tie
 
-enum-told : tie.Need-enum-told
-enum-told c = search needs
-
-stand-unlooped-requires : tie.Need-stand-unlooped-requires
-stand-unlooped-requires c κs = search needs
-
-enum-known-looping : tie.Need-enum-known-looping
-enum-known-looping c = search needs
-
 sub-t8 : tie.Need-sub-t8
 sub-t8 c =
     let loop = c .before .before in
@@ -43,9 +34,6 @@ returns c =
     let loop = c .before .before in
     simp (loop .looping .given .1, le-leb (loop .looping .given .0 .1 .0) (loop .before .before .args .frame) (omega arith))
 
-stand-unlooped-requires-2 : tie.Need-stand-unlooped-requires-2
-stand-unlooped-requires-2 c κs = search needs
-
 returns-2 : tie.Need-returns-2
 returns-2 c = c .stand-unlooped .ensures ∙ simp (c .before .enum-told .given .1)
 
@@ -54,16 +42,4 @@ returns-3 c = c .stand-unlooped2 .ensures ∙ simp (c .before .before .before .l
 
 pub stand-spec : {M : Type 1} → statement M
 stand-spec =
-    tie.close
-    (tie.spec
-    enum-told
-    stand-unlooped-requires
-    enum-known-looping
-    sub-t8
-    sub-t9
-    rem-t10
-    add-t11
-    returns
-    stand-unlooped-requires-2
-    returns-2
-    returns-3)
+    tie.close (tie.spec (λ c. search needs) (λ c κs. search needs) (λ c. search needs) sub-t8 sub-t9 rem-t10 add-t11 returns (λ c κs. search needs) returns-2 returns-3)

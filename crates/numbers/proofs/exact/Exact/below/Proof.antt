@@ -10,12 +10,6 @@ use borrow.Author.Needs.{needs}
 use Rattle.numbers.proofs.exact.Exact.below.Statement.{statement}
 use Rattle.numbers.proofs.exact.Exact.below.Tie as tie
 
-below-requires : tie.Need-below-requires
-below-requires c κs = search needs
-
-below-requires-2 : tie.Need-below-requires-2
-below-requires-2 c κs = search needs
-
 returns : tie.Need-returns
 returns c =
     let s = c .before .before .before .before .before in
@@ -42,4 +36,5 @@ returns-3 c =
     s .pre .0 ∙ signs-apart (valueOf x) (valueOf y) ((λ i. Bool·beq (sym (s .pre .0) i) (sym (s .pre .1) i)) ∙ c .if1 .left)
 
 pub below-spec : {M : Type 1} → statement M
-below-spec = tie.close (tie.spec below-requires below-requires-2 returns returns-2 returns-3)
+below-spec =
+    tie.close (tie.spec (λ c κs. search needs) (λ c κs. search needs) returns returns-2 returns-3)

@@ -11,9 +11,6 @@ use borrow.Author.Needs.{needs}
 use Rattle.numbers.proofs.exact.Exact.difference_of_products.Statement.{statement}
 use Rattle.numbers.proofs.exact.Exact.difference_of_products.Tie as tie
 
-of-products-requires : tie.Need-of-products-requires
-of-products-requires c κs = search needs
-
 returns : tie.Need-returns
 returns c =
     let s = c .before in
@@ -24,4 +21,5 @@ returns c =
     ∙ ap (λ (z : ℤ). exactOf (s .args .a *ℤ pos (s .args .b) +ℤ z)) (times-neg (s .args .c) (s .args .d))
 
 pub difference-of-products-spec : {M : Type 1} → statement M
-difference-of-products-spec = tie.close (tie.spec of-products-requires returns)
+difference-of-products-spec =
+    tie.close (tie.spec (λ c κs. search needs) returns)

@@ -11,12 +11,6 @@ use Rattle.numbers.proofs.Exacts.{leb-min}
 use Rattle.numbers.proofs.exact.Exact.in_i64.Statement.{statement}
 use Rattle.numbers.proofs.exact.Exact.in_i64.Tie as tie
 
-or-most-requires : tie.Need-or-most-requires
-or-most-requires c κs = search needs
-
-most-requires : tie.Need-most-requires
-most-requires c κs = search needs
-
 below-stop : (b : Bool) → mostOf b < 2 ^ 64 - 1
 below-stop true = lit< tt
 below-stop false = lit< tt
@@ -30,4 +24,5 @@ returns c =
     ∙ sym (in-i64 (e .neg) (sizeOf (e .size)))
 
 pub in-i64-spec : {M : Type 1} → statement M
-in-i64-spec = tie.close (tie.spec or-most-requires most-requires returns)
+in-i64-spec =
+    tie.close (tie.spec (λ c κs. search needs) (λ c κs. search needs) returns)

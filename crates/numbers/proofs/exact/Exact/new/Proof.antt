@@ -7,9 +7,6 @@ use borrow.Author.Needs.{needs}
 use Rattle.numbers.proofs.exact.Exact.new.Statement.{statement}
 use Rattle.numbers.proofs.exact.Exact.new.Tie as tie
 
-is-zero-requires : tie.Need-is-zero-requires
-is-zero-requires c κs = search needs
-
 returns : tie.Need-returns
 returns c =
     let s = c .before .before in
@@ -21,4 +18,5 @@ returns-2 c =
     made (s .args .neg) (s .args .size) (search needs) (eqb-false (sizeOf (s .args .size)) 0 (sym (c .before .is-zero .ensures) ∙ c .if1 .left))
 
 pub new-spec : {M : Type 1} → statement M
-new-spec = tie.close (tie.spec is-zero-requires returns returns-2)
+new-spec =
+    tie.close (tie.spec (λ c κs. search needs) returns returns-2)

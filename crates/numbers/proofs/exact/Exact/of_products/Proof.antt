@@ -11,12 +11,6 @@ use Rattle.numbers.proofs.Exacts.{worked, product-small, sum-small}
 use Rattle.numbers.proofs.exact.Exact.of_products.Statement.{statement}
 use Rattle.numbers.proofs.exact.Exact.of_products.Tie as tie
 
-times-requires : tie.Need-times-requires
-times-requires c κs = search needs
-
-times-requires-2 : tie.Need-times-requires-2
-times-requires-2 c κs = search needs
-
 one : (c : tie.After-times) → c .times .result ≡ exactOf (c .before .args .a *ℤ pos (c .before .args .b))
 one c = let s = c .before in c .times .ensures ∙ ap (λ (z : ℤ). exactOf (z *ℤ pos (s .args .b))) (toZ-ofZ w64 (s .args .a) (s .fits .a))
 
@@ -38,4 +32,5 @@ returns c =
     worked (λ (x y : ℤ). exactOf (x +ℤ y)) _ _ _ _ _ (one (c .before .before)) (two (c .before)) (c .plus .ensures)
 
 pub of-products-spec : {M : Type 1} → statement M
-of-products-spec = tie.close (tie.spec times-requires times-requires-2 plus-requires returns)
+of-products-spec =
+    tie.close (tie.spec (λ c κs. search needs) (λ c κs. search needs) plus-requires returns)

@@ -11,24 +11,6 @@ use borrow.Author.Needs.{needs}
 use Rattle.numbers.proofs.exact.Exact.plus.Statement.{statement}
 use Rattle.numbers.proofs.exact.Exact.plus.Tie as tie
 
-plus-requires : tie.Need-plus-requires
-plus-requires c κs = search needs
-
-new-requires : tie.Need-new-requires
-new-requires c κs = search needs
-
-difference-requires : tie.Need-difference-requires
-difference-requires c κs = search needs
-
-difference-requires-2 : tie.Need-difference-requires-2
-difference-requires-2 c κs = search needs
-
-plus-requires-2 : tie.Need-plus-requires-2
-plus-requires-2 c κs = search needs
-
-new-requires-2 : tie.Need-new-requires-2
-new-requires-2 c κs = search needs
-
 returns : tie.Need-returns
 returns c =
     let s = c .before .before .before .before .before .before in
@@ -69,14 +51,5 @@ returns-4 c =
 pub plus-spec : {M : Type 1} → statement M
 plus-spec =
     tie.close
-    (tie.spec
-    plus-requires
-    new-requires
-    difference-requires
-    difference-requires-2
-    plus-requires-2
-    new-requires-2
-    returns
-    returns-2
-    returns-3
+    (tie.spec (λ c κs. search needs) (λ c κs. search needs) (λ c κs. search needs) (λ c κs. search needs) (λ c κs. search needs) (λ c κs. search needs) returns returns-2 returns-3
     returns-4)

@@ -11,15 +11,6 @@ use Rattle.numbers.proofs.Exacts.{sign-abs-of}
 use Rattle.numbers.proofs.exact.Exact.product.Statement.{statement}
 use Rattle.numbers.proofs.exact.Exact.product.Tie as tie
 
-negative-requires : tie.Need-negative-requires
-negative-requires c κs = search needs
-
-magnitude-requires : tie.Need-magnitude-requires
-magnitude-requires c κs = search needs
-
-times-requires : tie.Need-times-requires
-times-requires c κs = search needs
-
 returns : tie.Need-returns
 returns c =
     let s = c .before .before .before in
@@ -29,4 +20,5 @@ returns c =
     c .times .ensures ∙ (λ i. exactOf (toZ-ofZ w64 (s .args .x) (s .fits .x) i *ℤ y i))
 
 pub product-spec : {M : Type 1} → statement M
-product-spec = tie.close (tie.spec negative-requires magnitude-requires times-requires returns)
+product-spec =
+    tie.close (tie.spec (λ c κs. search needs) (λ c κs. search needs) (λ c κs. search needs) returns)

@@ -8,9 +8,6 @@ use borrow.Author.Needs.{needs}
 use Rattle.numbers.proofs.exact.Exact.sum_of_products.Statement.{statement}
 use Rattle.numbers.proofs.exact.Exact.sum_of_products.Tie as tie
 
-of-products-requires : tie.Need-of-products-requires
-of-products-requires c κs = search needs
-
 returns : tie.Need-returns
 returns c =
     let s = c .before in
@@ -20,4 +17,5 @@ returns c =
     ∙ (λ i. exactOf (x i *ℤ pos (s .args .b) +ℤ y i *ℤ pos (s .args .d)))
 
 pub sum-of-products-spec : {M : Type 1} → statement M
-sum-of-products-spec = tie.close (tie.spec of-products-requires returns)
+sum-of-products-spec =
+    tie.close (tie.spec (λ c κs. search needs) returns)

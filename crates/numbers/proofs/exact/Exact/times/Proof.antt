@@ -15,18 +15,6 @@ use borrow.Author.Needs.{needs}
 use Rattle.numbers.proofs.exact.Exact.times.Statement.{statement}
 use Rattle.numbers.proofs.exact.Exact.times.Tie as tie
 
-magnitude-requires : tie.Need-magnitude-requires
-magnitude-requires c κs = search needs
-
-product-requires : tie.Need-product-requires
-product-requires c κs = search needs
-
-negative-requires : tie.Need-negative-requires
-negative-requires c κs = search needs
-
-new-requires : tie.Need-new-requires
-new-requires c κs = search needs
-
 returns : tie.Need-returns
 returns c =
     let s = c .before .before .before .before in
@@ -39,4 +27,4 @@ returns c =
 
 pub times-spec : {M : Type 1} → statement M
 times-spec =
-    tie.close (tie.spec magnitude-requires product-requires negative-requires new-requires returns)
+    tie.close (tie.spec (λ c κs. search needs) (λ c κs. search needs) (λ c κs. search needs) (λ c κs. search needs) returns)

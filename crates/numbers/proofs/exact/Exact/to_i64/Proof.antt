@@ -10,12 +10,6 @@ use Rattle.numbers.proofs.Signs.{stopped-twice}
 use Rattle.numbers.proofs.exact.Exact.to_i64.Statement.{statement}
 use Rattle.numbers.proofs.exact.Exact.to_i64.Tie as tie
 
-or-most-requires : tie.Need-or-most-requires
-or-most-requires c κs = search needs
-
-signed-requires : tie.Need-signed-requires
-signed-requires c κs = search needs
-
 returns : tie.Need-returns
 unfolding valueOf
 returns c =
@@ -25,4 +19,5 @@ returns c =
     ∙ ap (λ (n : ℕ). toI64 (withSign (e .neg) n)) (c .before .or-most .ensures) ∙ stopped-twice (e .neg) (sizeOf (e .size))
 
 pub to-i64-spec : {M : Type 1} → statement M
-to-i64-spec = tie.close (tie.spec or-most-requires signed-requires returns)
+to-i64-spec =
+    tie.close (tie.spec (λ c κs. search needs) (λ c κs. search needs) returns)

@@ -23,9 +23,6 @@ b-small c = search needs
 hi-plain : (c : tie.Start) → c .args .b .hi ≤ c .args .self .hi
 hi-plain c = W.first-le (2 ^ 64) (c .args .self .hi) (c .args .self .lo) (c .args .b .hi) (c .args .b .lo) (a-small c) (c .pre)
 
-sub-t9 : tie.Need-sub-t9
-sub-t9 c = search needs
-
 sub-t11 : tie.Need-sub-t11
 sub-t11 c = le-of-lt (hi-borrow c)
 
@@ -56,4 +53,5 @@ returns-2 c =
     (W.less-borrow (2 ^ 64) (a .hi) (a .lo) (b .hi) (b .lo) (a .hi - b .hi - 1) (a .lo + (2 ^ 64 - 1 - b .lo) + 1) (W.apart-one (hi-borrow c)) (W.borrowed-is (c .if1 .left) (b-small (c .before))))
 
 pub less-spec : {M : Type 1} → statement M
-less-spec = tie.close (tie.spec sub-t9 sub-t11 sub-t12 sub-t13 add-t14 add-t15 returns returns-2)
+less-spec =
+    tie.close (tie.spec (λ c. search needs) sub-t11 sub-t12 sub-t13 add-t14 add-t15 returns returns-2)

@@ -16,26 +16,14 @@ hi-carry c =
     let s = c .before in
     W.plus-hi-carry (2 ^ 64) (s .args .self .hi) (s .args .self .lo) (s .args .b .hi) (s .args .b .lo) (omega arith) (c .if1 .left) (s .pre)
 
-sub-room : tie.Need-sub-room
-sub-room c = search needs
-
 add-t10 : tie.Need-add-t10
 add-t10 c = record { fits = hi-plain (c .before) }
-
-add-t11 : tie.Need-add-t11
-add-t11 c = search needs
 
 add-t12 : tie.Need-add-t12
 add-t12 c = record { fits = hi-plain (c .before) }
 
 add-t13 : tie.Need-add-t13
 add-t13 c = record { fits = hi-carry c }
-
-sub-t14 : tie.Need-sub-t14
-sub-t14 c = search needs
-
-sub-t15 : tie.Need-sub-t15
-sub-t15 c = search needs
 
 returns : tie.Need-returns
 returns c =
@@ -52,4 +40,4 @@ returns-2 c =
 
 pub plus-spec : {M : Type 1} → statement M
 plus-spec =
-    tie.close (tie.spec sub-room add-t10 add-t11 add-t12 add-t13 sub-t14 sub-t15 returns returns-2)
+    tie.close (tie.spec (λ c. search needs) add-t10 (λ c. search needs) add-t12 add-t13 (λ c. search needs) (λ c. search needs) returns returns-2)

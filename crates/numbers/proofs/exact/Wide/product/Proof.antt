@@ -30,12 +30,6 @@ add-t12 c = record { fits = W.high-part (c .args .u) (c .args .v) (c .fits .u .f
 add-t14 : tie.Need-add-t14
 add-t14 c = record { fits = W.high-small (c .args .u) (c .args .v) (c .fits .u .fits) (c .fits .v .fits) }
 
-mul-t16 : tie.Need-mul-t16
-mul-t16 c = search needs
-
-add-t18 : tie.Need-add-t18
-add-t18 c = search needs
-
 returns : tie.Need-returns
 returns c =
     let u = c .args .u in
@@ -44,5 +38,4 @@ returns c =
 
 pub product-spec : {M : Type 1} → statement M
 product-spec =
-    tie.close
-    (tie.spec mul-w0 mul-t add-t mul-w1 add-w1 mul-t10 add-t12 add-t14 mul-t16 add-t18 returns)
+    tie.close (tie.spec mul-w0 mul-t add-t mul-w1 add-w1 mul-t10 add-t12 add-t14 (λ c. search needs) (λ c. search needs) returns)
