@@ -118,13 +118,13 @@ uint32_t pulleybale_fill_lines(const pulleybale_clock *clock, const uint32_t *me
  * 2^64 - 1 is not refused, but counts as 2^64 - 1. Refuses by 12. */
 uint32_t pulleybale_advance(pulleybale_clock *clock, uint64_t frames, uint32_t *report);
 
-/* The same, but where it refuses by 10, and writes the bar lines that sound on the way, in playing
- * order: for each two words, its frame counted from the beginning of these frames, and its place in
- * `lines`. *count is how many. `cues_len` is in words; words behind the last cue stay. A run may be cut
- * into blocks of any sizes, one call after the other: where none refuses, the cues are the same (a
- * block's are counted from its own beginning), the clock ends with the same words, and the run's
- * *report has a bit just where some block's has it. A block needs room for its own cues alone. Refuses
- * by 12, 4, 11, and where the clock plays by 10, 8. */
+/* The same, but position + frames above 2^64 - 1 is refused; and writes the bar lines that sound on
+ * the way, in playing order: for each two words, its frame counted from the beginning of these frames,
+ * and its place in `lines`. *count is how many. `cues_len` is in words; words behind the last cue stay.
+ * A run may be cut into blocks of any sizes, one call after the other: where none refuses, the cues are
+ * the same (a block's are counted from its own beginning), the clock ends with the same words, and the
+ * run's *report has a bit just where some block's has it. A block needs room for its own cues alone.
+ * Refuses by 12, 4, 11, and where the clock plays by 10, 8. */
 uint32_t pulleybale_cues(pulleybale_clock *clock, const uint64_t *lines, size_t lines_len, uint64_t frames,
                          uint64_t *cues, size_t cues_len, uint64_t *count, uint32_t *report);
 

@@ -124,7 +124,8 @@ pub record SameAsCalls (lines clock : List ℕ) (whole : Call) (calls : List Cal
 
 -- of any eleven words, whatever the words are that are lent
 pub record Cuts (clock : List ℕ) : Type 0 where
-  -- for one or more blocks that do not carry the position past 2 ^ 64 - 1, where every block answers 0
+  -- for one or more blocks that do not carry the position past 2 ^ 64 - 1, where every block answers 0 (no block is no call, and an advance of 0 frames may
+  -- wrap or finish)
   pub joining : (lines : List ℕ) (first : Call) (rest : List Call)
       → Reaches (clockOf clock) (framesIn (blocksOf (first ∷ rest)))
       → allZero lines clock (first ∷ rest) ≡ true
