@@ -127,6 +127,12 @@ done {writing} {before} {out} {count} {whole} at = record {
 pub counts : {out after : List ℕ} {count : ℕ} {whole : List Problem} → Passed false out 0 whole after count → (count ≡ length whole) × (after ≡ out)
 counts passed = (omega (arith, passed .counted), passed .words)
 
+-- where there is nothing to write, all words stand
+pub unwritten : (out : List ℕ) (whole : List Problem) → length whole ≡ 0 → put true out 0 whole ≡ out
+unfolding flat
+unwritten out [] e = refl
+unwritten out (problem ∷ rest) e = absurd (omega arith)
+
 pub writes : (out : List ℕ) (whole : List Problem) → length whole ≤ length out / 3 → put true out 0 whole ≡ over (flat whole) out
 writes out whole fits =
     sets-eq (flat whole) out 0 (omega (arith, flat-length whole))

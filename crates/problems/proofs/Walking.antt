@@ -6,8 +6,8 @@ use mathlib.Core.Logic.{_⊎_, inl, inr, ⊎-elim}
 use Prim.Native.Nat.{ℕ, _+_, _-_, _/_, _≤_, _<_}
 use native.Mathlib.Numerals.{add-one}
 use native.Mathlib.Omega.{arith}
-use borrow.Author.Tests.{le-leb, lt-leb, leb-true, leb-false, eqb-true, eq-eqb, not-true}
-use lib.Dec.{leb, eqb}
+use borrow.Author.Tests.{le-leb, lt-leb, leb-true, leb-false, ltb-false, eqb-true, eq-eqb, not-true}
+use lib.Dec.{leb, ltb, eqb}
 use lib.ListN.{length, getD, drop, drop-of-length-le}
 use lib.Seq.{drop-cons}
 use Rattle.numbers.specs.Answers.{Answer, accepted, refused}
@@ -18,7 +18,7 @@ use Rattle.problems.specs.Problems.{Problem, meterPoints, meterProblems}
 use Rattle.problems.specs.Answers.{counted, after, meterProblemsAnswer, meterAfter}
 use Rattle.problems.specs.Passes.{Passed, Walks, put, pointOf, meterFrom, begun, restarts, here, stepped, finished}
 use Rattle.problems.proofs.Calls.{ready, too-many, enough}
-use Rattle.problems.proofs.Passing.{Passing, begin, ready-next, on, done, passed-none}
+use Rattle.problems.proofs.Passing.{Passing, begin, ready-next, on, done, unwritten}
 use Rattle.problems.proofs.Wholes.{meter-whole, meter-few}
 
 abbrev pub zeros : MeterPoint
@@ -41,12 +41,12 @@ module _ (points : List MeterPoint) (out : List ℕ) where
     pub over : 65536 < s .n
     pub still : words ≡ out
 
-  -- a pass has come to a point. The second has room; the first ends the walk only where there is none, or no point
+  -- a pass has come to a point. The second has room; the first ends the walk only where there is none, or no record
   pub record Under (s : State) (words : List ℕ) : Type 0 where
     pub short : s .n ≤ 65536
     pub passing : Passing (s .writing) out words (s .count) (left s) whole
     pub fits : s .writing ≡ true → length whole ≤ s .room
-    pub stopped : s .writing ≡ false → s .n ≤ s .at → (points ≡ []) ⊎ (s .room < s .count)
+    pub stopped : s .writing ≡ false → s .n ≤ s .at → (length whole ≡ 0) ⊎ (s .room < s .count)
 
   pub record Stage (s : State) (words : List ℕ) : Type 0 where
     pub n-is : s .n ≡ length points
@@ -55,6 +55,10 @@ module _ (points : List MeterPoint) (out : List ℕ) where
     pub how : ((s .n ≤ s .at) × Refused s words) ⊎ Under s words
 
   -- ---- the beginning
+
+  no-points : points ≡ [] → length whole ≡ 0
+  unfolding meterProblems meterPoints
+  no-points e = ap (λ (map : List MeterPoint). length (meterProblems map)) e
 
   all-left : meterFrom (length points) 0 0 points ≡ whole
   all-left = meter-whole points
@@ -65,7 +69,7 @@ module _ (points : List MeterPoint) (out : List ℕ) where
       by-length : (small : Bool) → leb (length points) 65536 ≡ small
           → (length points ≤ cond small 0 (length points) × Refused (record { n = length points; room = length out / 3; at = cond small 0 (length points); writing = false; low = 0; count = 0 }) out)
           ⊎ Under (record { n = length points; room = length out / 3; at = cond small 0 (length points); writing = false; low = 0; count = 0 }) out
-      by-length true e = inr (record { short = leb-true (length points) 65536 e; passing = begin all-left; fits = never; stopped = λ w h. inl (drop-of-length-le points h) })
+      by-length true e = inr (record { short = leb-true (length points) 65536 e; passing = begin all-left; fits = never; stopped = λ w h. inl (no-points (drop-of-length-le points h)) })
       by-length false e = inl (omega arith, record { over = leb-false (length points) 65536 e; still = refl })
 
   -- ---- one point
@@ -109,21 +113,29 @@ module _ (points : List MeterPoint) (out : List ℕ) where
       -- where the walk restarts, the first pass has counted all records, and there is room for them
       restarted : restarts s count ≡ true → (s .writing ≡ false) × (length whole ≤ s .room)
       restarted h = (
-        not-true (s .writing) (both (not (s .writing)) (leb count (s .room)) (all .1) .0),
-        omega (arith, passed .sum, ap length (none-left (eqb-true (s .at + 1) (s .n) (all .0))), leb-true count (s .room) (both (not (s .writing)) (leb count (s .room)) (all .1) .1)),
+        not-true (s .writing) (some .0),
+        omega (arith, passed .sum, ap length (none-left (eqb-true (s .at + 1) (s .n) (all .0))), leb-true count (s .room) (both (ltb 0 count) (leb count (s .room)) (some .1) .1)),
       )
         where
-          all : (eqb (s .at + 1) (s .n) ≡ true) × ((not (s .writing) && leb count (s .room)) ≡ true)
-          all = both (eqb (s .at + 1) (s .n)) (not (s .writing) && leb count (s .room)) h
+          all : (eqb (s .at + 1) (s .n) ≡ true) × ((not (s .writing) && (ltb 0 count && leb count (s .room))) ≡ true)
+          all = both (eqb (s .at + 1) (s .n)) (not (s .writing) && (ltb 0 count && leb count (s .room))) h
 
-      -- where the first pass ends and the walk does not restart, there is none
-      went-on : restarts s count ≡ false → s .writing ≡ false → s .n ≤ s .at + 1 → s .room < count
-      went-on h w end = leb-false count (s .room) (last (eqb (s .at + 1) (s .n)) (s .writing) (leb count (s .room)) (eq-eqb (s .at + 1) (s .n) (omega arith)) w h)
+          some : (not (s .writing) ≡ true) × ((ltb 0 count && leb count (s .room)) ≡ true)
+          some = both (not (s .writing)) (ltb 0 count && leb count (s .room)) (all .1)
+
+      -- where the first pass ends and the walk does not restart, there is none, or no record
+      went-on : restarts s count ≡ false → s .writing ≡ false → s .n ≤ s .at + 1 → (length whole ≡ 0) ⊎ (s .room < count)
+      went-on h w end =
+          ⊎-elim
+          (λ nothing. inl (omega (arith, passed .sum, ap length (none-left (omega arith)), ltb-false 0 count nothing)))
+          (λ full. inr (leb-false count (s .room) full))
+          (last (eqb (s .at + 1) (s .n)) (s .writing) (ltb 0 count) (leb count (s .room)) (eq-eqb (s .at + 1) (s .n) (omega arith)) w h)
         where
-          last : (ended writing fits : Bool) → ended ≡ true → writing ≡ false → (ended && (not writing && fits)) ≡ false → fits ≡ false
-          last true false fits e w h = h
-          last true true fits e w h = cc
-          last false writing fits e w h = cc
+          last : (ended writing some fits : Bool) → ended ≡ true → writing ≡ false → (ended && (not writing && (some && fits))) ≡ false → (some ≡ false) ⊎ (fits ≡ false)
+          last true false true fits e w h = inr h
+          last true false false fits e w h = inl refl
+          last true true some fits e w h = never (sym w)
+          last false writing some fits e w h = never e
 
       by-restart : (again : Bool) → restarts s count ≡ again → Stage (next again) after
       by-restart true h = record {
@@ -141,7 +153,7 @@ module _ (points : List MeterPoint) (out : List ℕ) where
         n-is = stage .n-is;
         room-is = stage .room-is;
         long = passed .long;
-        how = inr (record { short = under .short; passing = passed; fits = under .fits; stopped = λ w end. inr (went-on h w end) });
+        how = inr (record { short = under .short; passing = passed; fits = under .fits; stopped = λ w end. went-on h w end });
       }
 
       pub steps : (r : State) → r ≡ stepped s point → Stage r after
@@ -165,10 +177,6 @@ module _ (points : List MeterPoint) (out : List ℕ) where
       where
         many : 65536 < length points
         many = omega (arith, r .over, stage .n-is)
-
-    no-whole : points ≡ [] → whole ≡ []
-    unfolding meterProblems meterPoints
-    no-whole e = ap meterProblems e
 
     module _ (u : Under s words) where
       all-passed : Passed (s .writing) out 0 whole words (s .count)
@@ -194,7 +202,7 @@ module _ (points : List MeterPoint) (out : List ℕ) where
       by-pass true w = fits-told (u .fits w) (rw w at (all-passed .words))
       by-pass false w =
           ⊎-elim
-          (λ none. fits-told (omega (arith, ap length (no-whole none))) (still ∙ passed-none {writing = true} {out = out} {count = 0} .words ∙ sym (ap (put true out 0) (no-whole none))))
+          (λ none. fits-told (omega (arith, none)) (still ∙ sym (unwritten out whole none)))
           (λ many. told {answer = refused 8 []} (rw (lt-leb (s .count) (s .room) many)) (too-many whole out (omega (arith, count-is, stage .room-is)) .0, still ∙ too-many whole out (omega (arith, count-is, stage .room-is)) .1))
           (u .stopped w over)
         where

@@ -3,7 +3,7 @@ use mathlib.Core.Bool.{Bool, true, false, not, cond, _&&_}
 use mathlib.Core.Path.{_≡_}
 use mathlib.Core.List.{List, [], _∷_, _++_}
 use Prim.Native.Nat.{ℕ, suc, _+_, _*_, _/_, _≤_, _<_}
-use lib.Dec.{leb, eqb}
+use lib.Dec.{leb, ltb, eqb}
 use lib.IntN.{ℤ, pos}
 use lib.ListN.{length, getD}
 use lib.Seq.{sets}
@@ -76,9 +76,9 @@ meterFrom n index low (point ∷ rest) = recordsAt n index low point ++ meterFro
 abbrev pub begun : ℕ → ℕ → State
 begun n words = record { n = n; room = words / 3; at = cond (leb n 65536) 0 n; writing = false; low = 0; count = 0 }
 
--- the first pass ends, and there is room for its count of records
+-- the first pass ends, with records that there is room for
 abbrev pub restarts : State → ℕ → Bool
-restarts s count = eqb (s .at + 1) (s .n) && (not (s .writing) && leb count (s .room))
+restarts s count = eqb (s .at + 1) (s .n) && (not (s .writing) && (ltb 0 count && leb count (s .room)))
 
 -- the state behind a point: where the walk restarts, the second pass begins
 abbrev pub turned : State → ℕ → ℕ → State

@@ -125,8 +125,8 @@ fn pass(nums: &[i64], dens: &[u32], tempos: &[u32], out: &mut [u32], writing: bo
     count
 }
 
-// The problems of a map that can be walked: the records are counted, and written where there is
-// room for them.
+// The problems of a map that can be walked: the records are counted, and where there are some, and
+// room for them, written.
 pub fn list(nums: &[i64], dens: &[u32], tempos: &[u32], out: &mut [u32]) -> ProblemsAnswer
     requires { ⌜ Walkable (now nums) (now dens) (now tempos) ⌝ }
     ensures { λ r. ⌜ (readProblems r ≡ walkableAnswer (now (nums .entry)) (now (dens .entry)) (now (tempos .entry)) (now (out .entry))) × (now (out .exit) ≡ walkableAfter (now (nums .entry)) (now (dens .entry)) (now (tempos .entry)) (now (out .entry))) ⌝ }
@@ -134,6 +134,9 @@ pub fn list(nums: &[i64], dens: &[u32], tempos: &[u32], out: &mut [u32]) -> Prob
     let count = pass(nums, dens, tempos, out, false);
     if count as usize > out.len() / 3 {
         return ProblemsAnswer::NoRoom;
+    }
+    if count == 0 {
+        return ProblemsAnswer::Problems(0);
     }
     ProblemsAnswer::Problems(pass(nums, dens, tempos, out, true))
 }

@@ -1,5 +1,5 @@
 // The walk over the points of a meter map, which goes over them twice: the first pass counts the
-// records, and where there is room for them the second writes them.
+// records, and where there are some, and room for them, the second writes them.
 use crate::ProblemsAnswer;
 use crate::records;
 use meter::bars::good_denominator;
@@ -74,12 +74,12 @@ fn records_at(
     own(out, writing, a, index, s.low, bar, numerator, denominator)
 }
 
-// Whether the first pass ends, and there is room for its count of records.
+// Whether the first pass ends, with records that there is room for.
 fn restart(s: State, count: u32) -> bool
     requires { ⌜ s .at < s .n ⌝ }
     ensures { λ r. ⌜ r ≡ restarts s count ⌝ }
 {
-    s.at + 1 == s.n && (!s.writing && count as usize <= s.room)
+    s.at + 1 == s.n && (!s.writing && (0 < count && count as usize <= s.room))
 }
 
 // The state behind a point, with so many records: where the walk restarts, the second pass begins.

@@ -1,5 +1,5 @@
 -- The first pass tells the count, and the second leaves the words.
-use mathlib.Core.Path.{ap, _∙_}
+use mathlib.Core.Path.{_≡_, sym, ap, _∙_}
 use mathlib.Core.Bool.{true, false}
 use mathlib.Core.List.{List}
 use Prim.Native.Nat.{ℕ}
@@ -12,7 +12,7 @@ use Rattle.numbers.proofs.Laws.{never}
 use Rattle.problems.specs.Problems.{Problem, listed, tempoProblems}
 use Rattle.problems.specs.Passes.{put}
 use Rattle.problems.proofs.Calls.{ready, too-many, enough, few}
-use Rattle.problems.proofs.Passing.{counts}
+use Rattle.problems.proofs.Passing.{counts, unwritten}
 use Rattle.problems.proofs.changes.list.Statement.{statement}
 use Rattle.problems.proofs.changes.list.Tie as tie
 
@@ -32,12 +32,20 @@ returns c =
 
 returns-2 : tie.Need-returns-2
 returns-2 c =
-    let s = c .before .before .before .before .before .before .before .before .before .before .before .before in
-    let said = counts (c .before .before .before .before .before .before .before .pass .ensures) in
-    let fit = enough (found s) (s .args .out .now) (omega (arith, c .before .before .before .before .if1 .left, said .0, ap length (said .1))) in
+    let s = c .before .before .before .before .before .before .before .before .before in
+    let said = counts (c .before .before .before .before .pass .ensures) in
+    let fit = enough (found s) (s .args .out .now) (omega (arith, c .before .if1 .left, said .0, ap length (said .1))) in
+    let none : length (found s) ≡ 0 = omega (arith, c .if2 .taken, said .0) in
+    (ap accepted (sym none) ∙ fit .0, said .1 ∙ sym (unwritten (s .args .out .now) (found s) none) ∙ fit .1)
+
+returns-3 : tie.Need-returns-3
+returns-3 c =
+    let s = c .before .before .before .before .before .before .before .before .before .before .before .before .before in
+    let said = counts (c .before .before .before .before .before .before .before .before .pass .ensures) in
+    let fit = enough (found s) (s .args .out .now) (omega (arith, c .before .before .before .before .before .if1 .left, said .0, ap length (said .1))) in
     let wrote = c .before .before .pass2 .ensures in
     (ap accepted (wrote .counted ∙ zero-add (length (found s))) ∙ fit .0, wrote .words ∙ ap (λ (l : List ℕ). put true l 0 (found s)) (said .1) ∙ fit .1)
 
 pub list-spec : {M : Type 1} → statement M
 list-spec =
-    tie.close (tie.spec pass-requires (λ c. search needs) (λ c. search needs) returns (λ c κs. search needs) (λ c. search needs) returns-2)
+    tie.close (tie.spec pass-requires (λ c. search needs) (λ c. search needs) returns (λ c. search needs) returns-2 (λ c κs. search needs) (λ c. search needs) returns-3)
