@@ -4,4 +4,5 @@ pub mod Steps
 pub mod Walks
 pub mod Ends
 pub mod Never
+pub mod Short
 pub mod Example

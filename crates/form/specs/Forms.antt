@@ -1,7 +1,7 @@
 -- The text form of a score: what the lines of a text say together, and the score file of it.
 use mathlib.Core.Path.{_≡_}
 use mathlib.Core.List.{List, [], _∷_, _++_}
-use Prim.Native.Nat.{ℕ, zero, suc, _+_, _*_}
+use Prim.Native.Nat.{ℕ, zero, suc, _+_, _*_, _≤_}
 use lib.IntN.{ℤ}
 use lib.ListN.{length, take}
 use Rattle.numbers.specs.Answers.{Answer, accepted, refused}
@@ -147,6 +147,10 @@ formAnswer text = endAnswer (outcome text)
 -- the output, afterwards; where the text is wrong, as it was
 unfoldable pub formBytes : List ℕ → List ℕ → List ℕ
 formBytes text old = endBytes (outcome text) old
+
+-- a file, where there is one, has no more bytes than the output
+abbrev pub FileFits : FormAnswer → List ℕ → Type 0
+FileFits answer out = (size : ℕ) → answer ≡ File size → size ≤ length out
 
 -- ---- in lent lists
 

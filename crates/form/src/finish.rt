@@ -3,6 +3,7 @@ use crate::FormAnswer;
 use crate::draft::Draft;
 use crate::draft::Said;
 use items::Reason;
+use score::LONGEST;
 use score::Score;
 use score_writer::WriteAnswer;
 ghost use mathlib.Core.Path.{_≡_};
@@ -55,7 +56,7 @@ fn written(
     nums: &[i64; 1024],
     dens: &[u32; 1024],
     bpms: &[u32; 1024],
-    out: &mut [u8; 19504],
+    out: &mut [u8; LONGEST],
 ) -> FormAnswer
     ensures { λ r. ⌜ WrittenAt line score (now (meter .entry)) (now (nums .entry)) (now (dens .entry)) (now (bpms .entry)) (now (out .entry)) r (now (out .exit)) ⌝ }
 {
@@ -74,7 +75,7 @@ pub fn file(
     nums: &[i64; 1024],
     dens: &[u32; 1024],
     bpms: &[u32; 1024],
-    out: &mut [u8; 19504],
+    out: &mut [u8; LONGEST],
 ) -> FormAnswer
     ensures { λ r. ⌜ Finished (lastLine lines) (front draft (now (meter .entry)) (now (nums .entry)) (now (dens .entry)) (now (bpms .entry))) (finished draft) (now (out .entry)) r (now (out .exit)) ⌝ }
 {

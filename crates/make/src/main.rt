@@ -1,25 +1,17 @@
 // Makes the score file that a text says: standard input to standard output. Where the text is wrong,
 // nothing is written there, and standard error has the line and the reason.
 use form::FormAnswer;
+use score::LONGEST;
 
 // One byte more than the longest text that is read.
 const READ: usize = 131073;
 
-fn show(out: &[u8], size: usize) {
-    let start = 0;
-    if size <= out.len() {
-        io::write_all(1, &out[start..size]);
-    }
-}
-
-fn file(out: &[u8; 19504], size: usize) {
-    show(out, size);
-}
-
 fn answer(text: &[u8]) {
-    let mut out = [0u8; 19504];
+    let mut out = [0u8; LONGEST];
     match form::read_form(text, &mut out) {
-        FormAnswer::File(size) => file(&out, size),
+        FormAnswer::File(size) => {
+            io::write_all(1, &out[..size]);
+        }
         FormAnswer::Wrong(line, reason) => telling::wrong(2, line, reason),
     }
 }

@@ -1,15 +1,15 @@
 -- What an answer says of what was lent: written, the points are within the limits and the beats in lowest terms, and so many bytes are the file's.
-use mathlib.Core.Path.{_≡_, refl}
+use mathlib.Core.Path.{_≡_, refl, sym}
 use mathlib.Core.Bool.{Bool, true, false, cond}
 use mathlib.Core.List.{List, []}
-use Prim.Native.Nat.{ℕ}
+use Prim.Native.Nat.{ℕ, _≤_}
 use native.Mathlib.Omega.{arith}
 use lib.IntN.{ℤ}
-use lib.ListN.{length}
+use lib.ListN.{length, length-append}
 use Rattle.numbers.specs.Answers.{accepted, refused}
 use Rattle.score.specs.declared.Score.{Score}
 use Rattle.score_writer.specs.declared.WriteAnswer.the-variants.{Written}
-use Rattle.score_writer.specs.Answers.{fewPoints, inLowestTerms, fileFrom, writeAnswer}
+use Rattle.score_writer.specs.Answers.{fewPoints, inLowestTerms, fileFrom, writeAnswer, writtenInto}
 use Rattle.score_writer.specs.Readings.{readWrite}
 
 module _ (score : Score) (meter : List ℕ) (nums : List ℤ) (dens bits : List ℕ) where
@@ -27,3 +27,8 @@ module _ (score : Score) (meter : List ℕ) (nums : List ℤ) (dens bits : List 
       go true true p q h = record { few = p; lowest = q; long = cc }
       go true false p q h = let z : _≡_ {A = ℕ} 0 1 = cc in absurd (omega arith)
       go false y p q h = let z : _≡_ {A = ℕ} 0 1 = cc in absurd (omega arith)
+
+  -- the output has room for the file
+  pub written-room : (bytes : ℕ) → accepted bytes ≡ writeAnswer score meter nums dens bits → (old : List ℕ) → bytes ≤ length (writtenInto score meter nums dens bits old)
+  unfolding writtenInto
+  written-room bytes e old = rw (sym e) (simp length-append (omega (arith, written-file bytes e .long)))

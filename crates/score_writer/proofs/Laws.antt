@@ -3,8 +3,8 @@ use Rattle.score_writer.specs.Promise.{Promised}
 use Rattle.score_writer.proofs.Back.{reads-back}
 use Rattle.score_writer.proofs.Lent.{accepted-reads-back}
 use Rattle.score_writer.proofs.Again.{writes-again}
--- an answer tells whether a file was written, and how long it is
-pub use Rattle.score_writer.proofs.Accepted.{WrittenFile, written-file}
+-- an answer tells whether a file was written, how long it is, and that the output has room for it
+pub use Rattle.score_writer.proofs.Accepted.{WrittenFile, written-file, written-room}
 -- how long a file is, by its points
 pub use Rattle.score_writer.proofs.Putting.{file-length}
 -- no two cases of the answer read alike

@@ -1,5 +1,6 @@
 // The score file, written: the mirror of `score::read_score`, from the same lists and the same
 // struct.
+use score::LONGEST;
 use score::Score;
 ghost use Rattle.score_writer.specs.Answers.{Writes};
 ghost use Rattle.score_writer.specs.Readings.{readWrite};
@@ -22,7 +23,7 @@ pub fn write_score(
     nums: &[i64; 1024],
     dens: &[u32; 1024],
     bpms: &[u32; 1024],
-    out: &mut [u8; 19504],
+    out: &mut [u8; LONGEST],
 ) -> WriteAnswer
     ensures { λ r. ⌜ Writes score (now (meter .entry)) (now (nums .entry)) (now (dens .entry)) (now (bpms .entry)) (now (out .entry)) (readWrite r) (now (out .exit)) ⌝ }
 {
