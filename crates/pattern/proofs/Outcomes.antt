@@ -10,7 +10,7 @@ use borrow.Author.Tests.{eq-eqb, ne-eqb, le-leb, lt-leb}
 use Rattle.numbers.specs.Answers.{Answer, accepted, refused}
 use Rattle.notes.specs.declared.Note.{Note}
 use Rattle.notes.specs.Notes.{wordsOf, refusalOfOne, refusalOfTwo}
-use Rattle.notes.proofs.Laws.{one-refuses, two-refuses}
+use Rattle.notes.proofs.Laws.{length-words, one-refuses, two-refuses}
 use Rattle.pattern.specs.declared.PatternAnswer.the-variants as P
 use Rattle.pattern.specs.declared.PatternAnswer.{PatternAnswer}
 use Rattle.pattern.specs.Phrases.{Phrase, phrase, wroteOf, answered, written, unless}
@@ -59,5 +59,5 @@ module _ (gives : Answer Phrase) (ns : List Note) (bars : ℕ) (out : List ℕ) 
   wrote h r {n} {b} {after} q en eb ea =
       let t : leb (length ns) (length out / 4) ≡ true = le-leb _ _ h in record {
         answers = q ∙ (λ i. accepted (wroteOf (en i) (eb i))) ∙ sym (ap (λ (x : Answer Phrase). answered x out) e ∙ simp t);
-        leaves = ea ∙ sym (ap (λ (x : Answer Phrase). written x out) e ∙ simp t);
+        leaves = ea ∙ ap (λ (k : ℕ). wordsOf ns ++ drop k out) (sym (length-words ns)) ∙ sym (ap (λ (x : Answer Phrase). written x out) e ∙ simp t);
       }

@@ -1,10 +1,10 @@
 -- What a call gives: its notes with their pattern, or a refusal. What it answers and which words it writes follow from that and from the room.
 use mathlib.Core.Bool.{Bool, cond}
-use mathlib.Core.List.{List, [], _++_}
-use Prim.Native.Nat.{ℕ, _*_, _/_}
+use mathlib.Core.List.{List, []}
+use Prim.Native.Nat.{ℕ, _/_}
 use lib.Dec.{leb, eqb}
-use lib.ListN.{length, drop}
-use Rattle.numbers.specs.Answers.{Answer, accepted, refused, given}
+use lib.ListN.{length}
+use Rattle.numbers.specs.Answers.{Answer, accepted, refused, given, over}
 use Rattle.notes.specs.declared.Note.{Note}
 use Rattle.notes.specs.Notes.{wordsOf, refusalOfOne, refusalOfTwo}
 use Rattle.pattern.specs.declared.Pattern.{Pattern}
@@ -38,7 +38,7 @@ answered (refused number facts) out = refused number facts
 
 -- the words afterwards: the notes first, and later words kept; a refusal changes none
 abbrev pub written : Answer Phrase → List ℕ → List ℕ
-written answer out = given (λ made. cond (roomFor made out) (wordsOf (made .notes) ++ drop (4 * length (made .notes)) out) out) answer out
+written answer out = given (λ made. cond (roomFor made out) (over (wordsOf (made .notes)) out) out) answer out
 
 -- ---- the words that are given
 
