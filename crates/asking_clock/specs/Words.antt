@@ -9,10 +9,8 @@ use Rattle.asking.specs.Fields.{u64At, beatAt}
 use Rattle.asking.specs.Lists.{pastOf, pastWords, pastLongs}
 use Rattle.meter.specs.declared.Pickup.{Pickup}
 use Rattle.meter.specs.declared.Pickup.the-variants.{Absent, Present}
-use Rattle.transport.specs.declared.PlayState.{PlayState}
-use Rattle.transport.specs.declared.PlayState.the-variants.{Stopped, Playing, Paused}
+use Rattle.transport.specs.Words.{stateOf, loopOf}
 use Rattle.transport.specs.declared.LoopRange.{LoopRange}
-use Rattle.transport.specs.declared.LoopRange.the-variants.{Off, On}
 use Rattle.transport.specs.declared.Transport.{Transport}
 
 -- a flag is 0 or 1
@@ -23,13 +21,9 @@ flagAt q at = leb (getD q at 0) 1
 abbrev pub pickupAt : List ℕ → ℕ → Pickup
 pickupAt q at = cond (eqb (getD q at 0) 0) Absent (Present (beatAt q (pastOf (length q) at 1)))
 
--- 0 stopped, 1 playing, 2 paused
-abbrev pub stateOf : ℕ → PlayState
-stateOf word = cond (eqb word 0) Stopped (cond (eqb word 1) Playing Paused)
-
 -- a flag for off or on, then the start and the end
 abbrev pub loopAt : List ℕ → ℕ → LoopRange
-loopAt q at = cond (eqb (getD q at 0) 0) Off (On (u64At q (at + 1)) (u64At q (at + 3)))
+loopAt q at = loopOf (getD q at 0) (u64At q (at + 1)) (u64At q (at + 3))
 
 -- whether the first 17 words are a transport: the state is at most 2, and the loop's and the pickup's flag at most 1
 abbrev pub transportWords : List ℕ → Bool

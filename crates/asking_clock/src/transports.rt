@@ -1,6 +1,7 @@
 // A Pickup and a Transport, by the words of a question.
 ghost use mathlib.Core.Path.{_≡_};
-ghost use Rattle.asking_clock.specs.Words.{flagAt, pickupAt, stateOf, loopAt, transportWords, transportOf};
+ghost use Rattle.asking_clock.specs.Words.{flagAt, pickupAt, loopAt, transportWords, transportOf};
+ghost use Rattle.transport.specs.Words.{stateOf};
 use meter::Pickup;
 use transport::LoopRange;
 use transport::PlayState;

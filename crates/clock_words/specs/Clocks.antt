@@ -12,10 +12,10 @@ use lib.ListN.{getD, set}
 use Rattle.numbers.specs.Bits.{signedOf}
 use Rattle.meter.specs.declared.Pickup.{Pickup}
 use Rattle.meter.specs.declared.Pickup.the-variants.{Absent, Present}
+use Rattle.transport.specs.Words.{stateOf, loopOf}
 use Rattle.transport.specs.declared.PlayState.{PlayState}
 use Rattle.transport.specs.declared.PlayState.the-variants.{Stopped, Playing, Paused}
-use Rattle.transport.specs.declared.LoopRange.{LoopRange}
-use Rattle.transport.specs.declared.LoopRange.the-variants.{Off, On}
+use Rattle.transport.specs.declared.LoopRange.the-variants.{Off}
 use Rattle.transport.specs.declared.Transport.{Transport}
 
 -- ---- reading
@@ -28,14 +28,6 @@ short word = leb word 4294967295
 unfoldable pub clockWords : List ℕ → Bool
 clockWords words =
     short (getD words 0 0) && (short (getD words 1 0) && (short (getD words 2 0) && (short (getD words 10 0) && (leb (getD words 5 0) 2 && leb (getD words 6 0) 1))))
-
--- 0 stopped, 1 playing, 2 paused
-abbrev pub stateOf : ℕ → PlayState
-stateOf word = cond (eqb word 0) Stopped (cond (eqb word 1) Playing Paused)
-
--- 0 off, whatever the two frames are; 1 on
-abbrev pub loopOf : ℕ → ℕ → ℕ → LoopRange
-loopOf on start end = cond (eqb on 0) Off (On start end)
 
 -- 0/0 stands for none. Any other numerator over 0 is a pickup that is no beat
 abbrev pub pickupOf : ℤ → ℕ → Pickup

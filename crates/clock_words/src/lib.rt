@@ -7,7 +7,8 @@ use transport::LoopRange;
 use transport::PlayState;
 use transport::Transport;
 ghost use mathlib.Core.Path.{_≡_};
-ghost use Rattle.clock_words.specs.Clocks.{clockWords, stateOf, loopOf, pickupOf, unfit, clockOf, stateWord, placed};
+ghost use Rattle.transport.specs.Words.{stateOf, loopOf};
+ghost use Rattle.clock_words.specs.Clocks.{clockWords, pickupOf, unfit, clockOf, stateWord, placed};
 
 pub const WORDS: usize = 11;
 

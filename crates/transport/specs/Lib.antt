@@ -3,3 +3,4 @@ pub mod Changes
 pub mod Advances
 pub mod Readings
 pub mod Promise
+pub mod Words

@@ -1,7 +1,7 @@
 -- Each field by its callee's equation.
 use mathlib.Core.Path.{ap, _∙_}
 use borrow.Author.Needs.{needs}
-use Rattle.asking_clock.specs.Words.{stateOf}
+use Rattle.transport.specs.Words.{stateOf}
 use Rattle.asking_clock.proofs.transports.transport_of.Statement.{statement}
 use Rattle.asking_clock.proofs.transports.transport_of.Tie as tie
 
