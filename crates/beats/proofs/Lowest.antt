@@ -23,7 +23,8 @@ abs-quot (negsuc a) g = abs-sign true (suc a / g)
 
 pub lowest-terms : (n : ℤ) (d : ℕ) → gcdOf (natAbs (newBeat n d .num)) (newBeat n d .den) ≡ 1
 unfolding newBeat lowest
-lowest-terms n d = rw (abs-quot n (gcdOf (natAbs n) (max d 1))) (gcd-over (natAbs n) (max d 1) (omega arith))
+lowest-terms n d =
+    ap (λ (size : ℕ). gcdOf size (newBeat n d .den)) (abs-quot n (gcdOf (natAbs n) (max d 1))) ∙ gcd-over (natAbs n) (max d 1) (omega arith)
 
 pub den-pos : (n : ℤ) (d : ℕ) → 0 < newBeat n d .den
 unfolding newBeat lowest

@@ -7,7 +7,7 @@ use Prim.Native.Nat.{ℕ, _*_, _/_, _≤_, _<_}
 use lib.Dec.{leb}
 use lib.ListN.{length, drop}
 use borrow.Author.Tests.{eq-eqb, ne-eqb, le-leb, lt-leb}
-use Rattle.numbers.specs.Answers.{Answer, accepted, refused}
+use Rattle.numbers.specs.Answers.{Answer, accepted, refused, over}
 use Rattle.notes.specs.declared.Note.{Note}
 use Rattle.notes.specs.Notes.{wordsOf, refusalOfOne, refusalOfTwo}
 use Rattle.notes.proofs.Laws.{length-words, one-refuses, two-refuses}
@@ -51,7 +51,7 @@ module _ (gives : Answer Phrase) (ns : List Note) (bars : ℕ) (out : List ℕ) 
   no-room h =
       let t : leb (length ns) (length out / 4) ≡ false = lt-leb _ _ h in record {
         answers = sym (ap (λ (x : Answer Phrase). answered x out) e ∙ simp t);
-        leaves = sym (ap (λ (x : Answer Phrase). written x out) e ∙ simp t);
+        leaves = sym (ap (λ (x : Answer Phrase). written x out) e ∙ ap (λ (room : Bool). cond room (over (wordsOf ns) out) out) t);
       }
 
   pub wrote : length ns ≤ length out / 4 → (r : PatternAnswer) {n b : ℕ} {after : List ℕ} → readPattern r ≡ accepted (wroteOf n b) → n ≡ length ns → b ≡ bars

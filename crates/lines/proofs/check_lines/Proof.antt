@@ -6,7 +6,7 @@ use Rattle.lines.proofs.check_lines.Statement.{statement}
 use Rattle.lines.proofs.check_lines.Tie as tie
 
 returns : tie.Need-returns
-returns c = simp (lt-leb _ _ (c .if1 .taken))
+returns c = simp (lt-leb _ 65536 (c .if1 .taken))
 
 returns-2 : tie.Need-returns-2
 returns-2 c = simp (le-leb _ _ (c .before .before .if1 .left), sym (c .before .ascending .ensures) ∙ c .if2 .taken)

@@ -1,13 +1,17 @@
 -- Below zero -1 - x is turned first, so that the least i64 has a size too.
 use borrow.Author.Needs.{needs}
-use mathlib.Core.Path.{sym}
+use mathlib.Core.Path.{sym, subst}
 use native.Mathlib.Omega.{arith}
+use mir.Syntax.{w64}
+use mir.Val.{SFits}
 use Rattle.numbers.proofs.Signs.{flipped, flipped-read, neg-abs, pos-read}
 use Rattle.numbers.proofs.magnitude.Statement.{statement}
 use Rattle.numbers.proofs.magnitude.Tie as tie
 
 sub-result : tie.Need-sub-result
-sub-result c = let s = c .before in rw (flipped (s .args .x) (s .fits .x) (c .if1 .taken)) (record { sfits = s .fits .x .sfits })
+sub-result c =
+    let s = c .before in
+    subst (SFits w64) (sym (flipped (s .args .x) (s .fits .x) (c .if1 .taken))) (record { sfits = s .fits .x .sfits })
 
 cast-result : tie.Need-cast-result
 cast-result c =

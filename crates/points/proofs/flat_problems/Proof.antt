@@ -19,7 +19,7 @@ too-many words out even over =
     (rw (eq-eqb _ _ even, e), rw (eq-eqb _ _ even, e))
 
 returns : tie.Need-returns
-returns c = (rw (ne-eqb _ _ (c .if1 .taken)), rw (ne-eqb _ _ (c .if1 .taken)))
+returns c = (rw (ne-eqb _ 0 (c .if1 .taken)), rw (ne-eqb _ 0 (c .if1 .taken)))
 
 returns-2 : tie.Need-returns-2
 returns-2 c = too-many (c .before .before .before .before .args .words .now) _ (c .before .if1 .left) (c .if2 .taken)

@@ -4,7 +4,7 @@ use Rattle.asking_clock.proofs.maps.past_tempo.Statement.{statement}
 use Rattle.asking_clock.proofs.maps.past_tempo.Tie as tie
 
 returns : tie.Need-returns
-returns c = rw (c .past-words2 .ensures, c .before .past-words .ensures, c .before .before .past-longs .ensures)
+returns c = cc (c .past-words2 .ensures, c .before .past-words .ensures, c .before .before .past-longs .ensures)
 
 pub past-tempo-spec : {M : Type 1} → statement M
 past-tempo-spec =

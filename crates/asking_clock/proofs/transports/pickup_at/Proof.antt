@@ -6,7 +6,7 @@ use Rattle.asking_clock.proofs.transports.pickup_at.Statement.{statemen
 use Rattle.asking_clock.proofs.transports.pickup_at.Tie as tie
 
 returns : tie.Need-returns
-returns c = rw (sym (c .before .u32-at .ensures), eq-eqb _ _ (c .if1 .taken))
+returns c = rw (sym (c .before .u32-at .ensures), eq-eqb _ 0 (c .if1 .taken))
 
 returns-2 : tie.Need-returns-2
 returns-2 c =
