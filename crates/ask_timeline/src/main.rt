@@ -14,7 +14,6 @@ use asking_clock::TRANSPORT;
 use timeline::FrameAnswer;
 use timeline::PlaceAnswer;
 use timeline::tests::Refusal;
-use transport::Transport;
 
 fn value_line(out: &mut [u8; HELD], to: &mut usize, x: u64) {
     asking::first(out, to, 0);

@@ -1,11 +1,12 @@
 -- Lists of a question, and what a lent output holds before a call.
-use Prim.Native.Nat.{ℕ, zero, suc, _+_, _-_, _*_, _%_, _^_}
+use Prim.Native.Nat.{ℕ, _+_, _-_, _*_, _%_, _^_}
 use mathlib.Core.Bool.{cond}
-use mathlib.Core.List.{List, [], _∷_}
+use mathlib.Core.List.{List, []}
 use lib.Dec.{ltb}
 use lib.IntN.{ℤ}
 use lib.ListN.{length, getD, take, drop}
 use Rattle.numbers.specs.Bits.{signedOf}
+use Rattle.numbers.specs.Lists.{entries}
 use Rattle.asking.specs.Fields.{u64At}
 
 -- an index that no question has
@@ -34,11 +35,6 @@ wordsOf q at = partOf q (pastOf (length q) at 1) (pastOf (length q) (pastOf (len
 abbrev pub longsOf : List ℕ → ℕ → List ℕ
 longsOf q at = partOf q (pastOf (length q) at 1) (pastOf (length q) (pastOf (length q) at 1) (getD q at 0 * 2))
 
--- f 0, f 1 and so on, n of them
-unfoldable pub listed : {A : Type 0} → (ℕ → A) → ℕ → List A
-listed f zero = []
-listed f (suc n) = f 0 ∷ listed (λ k. f (suc k)) n
-
 -- the k-th number of a list of 64-bit numbers, by its words; and n of them
 abbrev pub u64In : List ℕ → ℕ → ℕ
 u64In list k = u64At list (k * 2)
@@ -47,10 +43,10 @@ abbrev pub i64In : List ℕ → ℕ → ℤ
 i64In list k = signedOf (u64In list k)
 
 abbrev pub u64sOf : List ℕ → ℕ → List ℕ
-u64sOf list n = listed (u64In list) n
+u64sOf list n = entries (u64In list) 0 n
 
 abbrev pub i64sOf : List ℕ → ℕ → List ℤ
-i64sOf list n = listed (i64In list) n
+i64sOf list n = entries (i64In list) 0 n
 
 -- element k of a lent output of 32-bit and of 64-bit words, before a call; and n of them
 abbrev pub mark32 : ℕ → ℕ
@@ -60,7 +56,7 @@ abbrev pub mark64 : ℕ → ℕ
 mark64 k = 0xA5000000 + k
 
 abbrev pub marks32 : ℕ → List ℕ
-marks32 n = listed mark32 n
+marks32 n = entries mark32 0 n
 
 abbrev pub marks64 : ℕ → List ℕ
-marks64 n = listed mark64 n
+marks64 n = entries mark64 0 n

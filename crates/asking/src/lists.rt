@@ -105,7 +105,7 @@ pub fn i64s(list: &[u32], space: &mut [i64])
 fn least(a: usize, b: usize) -> usize
     ensures { λ r. ⌜ r ≡ min a b ⌝ }
 {
-    if a < b { a } else { b }
+    numbers::smaller(a as u64, b as u64) as usize
 }
 
 // The first n elements of space; all of them where it has fewer.

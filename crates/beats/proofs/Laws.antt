@@ -1,7 +1,7 @@
 -- What crates above may use of beats. They go by "accepted" and by the value, and unfold neither the test for 2 nor the reduction.
 
--- `new` answers lowest terms and the same value; a beat is its own `new`; beats with one value are the same two numbers
-pub use Rattle.beats.proofs.Values.{new-is-beat, new-value, own, own-value, own-value-left, value-same, one-beat}
+-- `new` answers lowest terms and the same value; beats with one value are the same two numbers
+pub use Rattle.beats.proofs.Values.{new-is-beat, new-value, own-value, own-value-left, value-same, one-beat}
 -- `new` at any two numbers, and the denominator of a beat divides that of any fraction with its value
 pub use Rattle.beats.proofs.Lowest.{same-value, den-divides}
 -- what a beat is

@@ -75,12 +75,6 @@ pub kept : (n : ℤ) (d e : ℕ) → d ≡ max e 1 → gcdOf (natAbs n) d ≡ 1 
 unfolding newBeat lowest
 kept n d e m g = rw (← m, g, quot-one n, div-one d)
 
-pub stays : (b : Beat) → 0 < b .den → gcdOf (natAbs (b .num)) (b .den) ≡ 1 → newBeat (b .num) (b .den) ≡ b
-unfolding newBeat lowest
-stays b h e =
-    let m : max (b .den) 1 ≡ b .den = omega arith in
-    rw (m, e, quot-one (b .num), div-one (b .den))
-
 -- ---- equal values
 
 -- a beat is its value

@@ -14,7 +14,7 @@ use Rattle.beats.specs.declared.Beat.{Beat}
 use Rattle.beats.specs.Beats.{newBeat, isBeat}
 use Rattle.beats.specs.Sums.{storable, fitted, addBeats, subBeats, mulBeat}
 use Rattle.beats.specs.Values.{Worth}
-use Rattle.beats.proofs.Lowest.{lowest-terms, den-pos, new-storable, same-value, stays, same-beat}
+use Rattle.beats.proofs.Lowest.{lowest-terms, den-pos, new-storable, same-value, same-beat}
 use Rattle.beats.proofs.Refusing.{beat-above, beat-lowest}
 
 -- ---- what `new` makes
@@ -26,10 +26,6 @@ pub new-value : (num : ℤ) (den : ℕ) → 0 < den → Worth (newBeat num den) 
 new-value num den above =
     let m : max den 1 ≡ den = omega arith in
     subst (λ (k : ℕ). newBeat num den .num *ℤ pos k ≡ num *ℤ pos (newBeat num den .den)) m (same-value num den)
-
--- a beat is the new beat of its own two numbers
-pub own : (beat : Beat) → isBeat beat ≡ true → newBeat (beat .num) (beat .den) ≡ beat
-own beat e = stays beat (beat-above beat e) (beat-lowest beat e)
 
 -- ---- values
 

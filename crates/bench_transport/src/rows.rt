@@ -12,7 +12,7 @@ use transport::change;
 use transport::playhead;
 ghost use mathlib.Core.Bool.{true};
 ghost use mathlib.Core.Path.{_≡_};
-ghost use Rattle.timeline.specs.Places.{Parallel};
+ghost use Rattle.tempo.specs.Tempos.{Parallel};
 ghost use Rattle.transport.specs.Transports.{sound};
 
 pub enum Row {

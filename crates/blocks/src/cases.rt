@@ -60,7 +60,7 @@ fn position(r: &mut u64, span: u64, start: u64, end: u64) -> u64 {
         4 => span,
         _ => draw(r, plus(span, 1)),
     };
-    if at < span { at } else { span }
+    numbers::smaller(at, span)
 }
 
 fn state(r: &mut u64) -> PlayState {

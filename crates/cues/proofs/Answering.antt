@@ -5,7 +5,7 @@ use mathlib.Core.List.{List, []}
 use Prim.Native.Nat.{ℕ, _+_, _-_, _/_, _≤_, _<_, _^_}
 use borrow.Author.Tests.{le-leb, lt-leb}
 use lib.ListN.{length}
-use Rattle.numbers.specs.Answers.{Answer, accepted, refused, given, over}
+use Rattle.numbers.specs.Answers.{Answer, accepted, refused, given, over, then}
 use Rattle.transport.specs.declared.playhead.Run.{Run}
 use Rattle.transport.specs.declared.Transport.{Transport}
 use Rattle.transport.specs.Transports.{sound, playing}
@@ -20,7 +20,7 @@ use Rattle.cues.specs.declared.CueReport.{CueReport}
 use Rattle.cues.specs.declared.CueReport.the-variants.{Cued, OutOfReach, NoRoom}
 use Rattle.cues.specs.declared.CueAnswer.{CueAnswer}
 use Rattle.cues.specs.Sounding.{Cue, cues}
-use Rattle.cues.specs.CueCall.{roomFor, playTest, passing, cueTest, Said, movedBy, handedBy, cueAnswer, flat, cueAfter}
+use Rattle.cues.specs.CueCall.{roomFor, playTest, cueTest, Said, movedBy, handedBy, cueAnswer, flat, cueAfter}
 use Rattle.cues.specs.Readings.{readReport, readCues, refusedBy}
 use Rattle.cues.specs.Plans.{planCues, Planned, countedTo, written}
 use Rattle.cues.proofs.Sounding.{sounds-none, silent}
@@ -61,11 +61,11 @@ module _ (t : Transport) (lines : List ℕ) (frames : ℕ) (out : List ℕ) wher
     -- ---- 4, 11
 
     pub bad-lines : (report : CueReport) (number : ℕ) (r : CueAnswer) → readReport report ≡ refused number [] → refused number [] ≡ linesAnswer lines → r ≡ refusedBy t report → Answers r out
-    bad-lines report number r read e = refuses report number r read (simp is (ap (λ (a : Answer Unit). passing a (cond (playing (t .state)) (playTest t lines frames out) (accepted tt))) (sym e)))
+    bad-lines report number r read e = refuses report number r read (simp is (ap (λ (a : Answer Unit). then a (λ u. cond (playing (t .state)) (playTest t lines frames out) (accepted tt))) (sym e)))
 
     module _ (fine : accepted tt ≡ linesAnswer lines) where
       pub past-lines : test ≡ cond (playing (t .state)) (playTest t lines frames out) (accepted tt)
-      past-lines = simp is (ap (λ (a : Answer Unit). passing a (cond (playing (t .state)) (playTest t lines frames out) (accepted tt))) (sym fine))
+      past-lines = simp is (ap (λ (a : Answer Unit). then a (λ u. cond (playing (t .state)) (playTest t lines frames out) (accepted tt))) (sym fine))
 
       -- ---- not playing: no cues and no move
 

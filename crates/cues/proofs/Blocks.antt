@@ -8,7 +8,7 @@ use native.Mathlib.Nat.{add-zero}
 use native.Mathlib.Omega.{arith}
 use borrow.Author.Tests.{leb-true}
 use lib.ListN.{length, drop}
-use Rattle.numbers.specs.Answers.{Answer, accepted, refused, given, over, isAccepted}
+use Rattle.numbers.specs.Answers.{Answer, accepted, refused, given, over, isAccepted, then}
 use Rattle.numbers.proofs.Laws.{never, and-left, and-right}
 use Rattle.transport.specs.declared.Transport.{Transport}
 use Rattle.transport.specs.Transports.{sound, playing}
@@ -18,7 +18,7 @@ use Rattle.transport.specs.Promise.{Composes, Reaches}
 use Rattle.transport.proofs.Laws.{advanced-sound, advanced-plays, advanced-low, composes}
 use Rattle.lines.specs.Lines.{linesAnswer}
 use Rattle.cues.specs.Sounding.{Cue, cues, later}
-use Rattle.cues.specs.CueCall.{inReach, passing, cueTest, Said, movedBy, handedBy, flat}
+use Rattle.cues.specs.CueCall.{inReach, cueTest, Said, movedBy, handedBy, flat}
 use Rattle.cues.specs.Promise.{Block, said, pairsOf, answerTo, saidTo, next, cuesIn}
 use Rattle.cues.specs.Promise.{allAccepted, joinedCues, lastTransport, someWraps, someFinishes, framesIn, RunJoined, Joining, ByBlocks, StaysSound}
 use Rattle.cues.proofs.Sounding.{cues-on}
@@ -50,7 +50,7 @@ handed-as t (accepted u) moved e = e
 handed-as t (refused number facts) moved e = refl
 
 -- a test that is passed: neither 12 nor 10 refuses
-past : (fit plays near : Bool) (lines room : Answer Unit) → isAccepted (cond fit (passing lines (cond plays (cond near room (refused 10 [])) (accepted tt))) (refused 12 [])) ≡ true
+past : (fit plays near : Bool) (lines room : Answer Unit) → isAccepted (cond fit (then lines (λ u. cond plays (cond near room (refused 10 [])) (accepted tt))) (refused 12 [])) ≡ true
     → (fit ≡ true) × (plays ≡ true → near ≡ true)
 past false plays near lines room e = never e
 past true plays true lines room e = (refl, λ p. refl)

@@ -4,11 +4,11 @@ use mathlib.Core.List.{List, [], _∷_}
 use Prim.Native.Nat.{ℕ, _+_, _/_, _-_, _^_}
 use lib.Dec.{leb}
 use lib.ListN.{length}
-use Rattle.numbers.specs.Answers.{Answer, accepted, refused, given, over}
+use Rattle.numbers.specs.Answers.{Answer, accepted, refused, given, then, over}
 use Rattle.transport.specs.declared.playhead.Run.{Run}
 use Rattle.transport.specs.declared.Transport.{Transport}
-use Rattle.transport.specs.Transports.{sound, playing}
-use Rattle.transport.specs.Changes.{Handed}
+use Rattle.transport.specs.Transports.{playing}
+use Rattle.transport.specs.Changes.{Handed, ifTransport}
 use Rattle.transport.specs.Advances.{advanced}
 use Rattle.lines.specs.Lines.{linesAnswer}
 use Rattle.cues.specs.Sounding.{Cue, cues}
@@ -27,14 +27,9 @@ roomFor cues out = leb (length cues) (length out / 2)
 abbrev pub playTest : Transport → List ℕ → ℕ → List ℕ → Answer Unit
 playTest t lines frames out = cond (inReach t frames) (cond (roomFor (cues lines t frames) out) (accepted tt) (refused 8 [])) (refused 10 [])
 
--- a test, and then the next
-abbrev pub passing : Answer Unit → Answer Unit → Answer Unit
-passing (accepted u) next = next
-passing (refused number facts) next = refused number facts
-
 -- 12, 4, 11, and then 10, 8 where the transport plays
 abbrev pub cueTest : Transport → List ℕ → ℕ → List ℕ → Answer Unit
-cueTest t lines frames out = cond (sound t) (passing (linesAnswer lines) (cond (playing (t .state)) (playTest t lines frames out) (accepted tt))) (refused 12 [])
+cueTest t lines frames out = ifTransport t (then (linesAnswer lines) (λ u. cond (playing (t .state)) (playTest t lines frames out) (accepted tt)))
 
 -- ---- the answer, and the words afterwards
 

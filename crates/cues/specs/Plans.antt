@@ -65,7 +65,7 @@ pub record Plays (t : Transport) (frames : ℕ) : Type 0 where
   pub plays : playing (t .state) ≡ true
   pub reach : t .position + frames ≤ 18446744073709551615
 
--- the cues of the run are the plan's, whatever the lines
+-- the cues of the run are the plan's, whatever the ascending lines
 pub record Planned (t : Transport) (frames : ℕ) (p : Plan) : Type 0 where
   pub fits : Fitting p
   pub same : (lines : List ℕ) → ascends lines ≡ true → cues lines t frames ≡ planCues lines p

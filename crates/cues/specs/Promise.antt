@@ -120,7 +120,7 @@ abbrev pub allRoom : List ℕ → Transport → List Block → Bool
 allRoom lines t [] = true
 allRoom lines t (block ∷ rest) = roomFor (cues lines t (block .frames)) (block .out) && allRoom lines (advanced t (block .frames) .transport) rest
 
--- with lines that are not refused, and a run in reach, no call is refused just where there is this room
+-- of a sound transport, with lines that are not refused and a run in reach, no call is refused just where there is this room
 abbrev pub Accepting : Type 0
 Accepting = (lines : List ℕ) (t : Transport) (blocks : List Block)
     → sound t ≡ true

@@ -12,9 +12,10 @@ use lib.Signed.{ltZ, leZ}
 use lib.Ieee.{Float, le}
 use lib.Ieee.Scale.{finite}
 use lib.ListN.{length}
+use Rattle.numbers.specs.Lists.{entries}
 use Rattle.numbers.specs.Answers.{Answer, accepted, given}
 use Rattle.numbers.specs.Signs.{inI64}
-use Rattle.numbers.proofs.Laws.{by-order, both, and-right}
+use Rattle.numbers.proofs.Laws.{by-order, both, and-right, entries-length}
 use Rattle.rounding.specs.Floats.{float0}
 use Rattle.rounding.proofs.Laws.{Up, up→le}
 use Rattle.beats.specs.declared.Beat.{Beat}
@@ -35,9 +36,8 @@ use Rattle.transport.specs.declared.Transport.{Transport}
 use Rattle.timeline.specs.Places.{floatOf, secondsOf, frameAtBar}
 use Rattle.timeline.proofs.Laws.{bar-frame}
 use Rattle.lines.specs.Lines.{ascendsFrom, ascends, linesAnswer}
-use Rattle.filler.specs.Fills.{entries, barLines}
+use Rattle.filler.specs.Fills.{barLines}
 use Rattle.filler.specs.Promise.{InOrder, LinesPromise}
-use Rattle.filler.proofs.Filling.{entries-length}
 use Rattle.filler.proofs.Testing.{accepted-known}
 use Rattle.filler.proofs.Ordering.{Placed, smallBeat, placed-zero, beat-zero, frames-up, own-up}
 use Rattle.filler.proofs.Wide.{Dyadic, wide-finite, wide-zero, dyadic-up}

@@ -1,14 +1,16 @@
 -- The loop over the lines: the entries before k are lines, those from k on are still marks, and what is carried holds: the segment, and the walks.
-use mathlib.Core.Path.{_≡_, refl, sym, ap, _∙_}
+use mathlib.Core.Path.{_≡_, refl, ap, _∙_}
 use mathlib.Core.List.{List}
-use Prim.Native.Nat.{ℕ, zero, suc, _+_, _≤_, _<_}
-use native.Mathlib.Nat.{ne-of-lt, add-zero, suc-add, add-suc, zero-add}
+use Prim.Native.Nat.{ℕ, _+_, _≤_, _<_}
+use native.Mathlib.Nat.{ne-of-lt}
 use native.Mathlib.Omega.{arith}
 use borrow.Author.Count.{below-none, below-more}
 use lib.IntN.{ℤ}
 use lib.ListN.{length, getD, set, replicate, length-set}
-use lib.Seq.{getD-set-same, getD-set-other, ext-getD}
+use lib.Seq.{getD-set-same, getD-set-other}
 use lib.Ieee.{Float}
+use Rattle.numbers.specs.Lists.{entries}
+use Rattle.numbers.proofs.Laws.{are-entries}
 use Rattle.beats.specs.declared.Beat.{Beat}
 use Rattle.meter.specs.Meters.{pointsOf}
 use Rattle.tempo.specs.Tempos.{tempoPoints}
@@ -16,29 +18,10 @@ use Rattle.transport.specs.declared.Transport.{Transport}
 use Rattle.timeline.specs.Places.{floatOf, frameAtBeat, frameAtBar}
 use Rattle.filler.specs.declared.segments.Segment.{Segment}
 use Rattle.filler.specs.declared.stands.Stand.{Stand}
-use Rattle.filler.specs.Fills.{entries, barLines}
+use Rattle.filler.specs.Fills.{barLines}
 use Rattle.filler.specs.Numbers.{markOf, Marked}
 use Rattle.filler.specs.Carried.{startIn, Before, Has, Serves, ServesAll, Stopped}
 use Rattle.filler.proofs.Serving.{AllServe, one-serves, placed-serve}
-
--- ---- entries by their places
-
-module _ (ask : ℕ → ℕ) where
-  pub entries-length : (k n : ℕ) → length (entries ask k n) ≡ n
-  unfolding entries
-  entries-length k zero = refl
-  entries-length k (suc n) = ap suc (entries-length (suc k) n)
-
-  pub entries-at : (k n j : ℕ) → j < n → getD (entries ask k n) j 0 ≡ ask (k + j)
-  unfolding entries
-  entries-at k zero j h = absurd (omega arith)
-  entries-at k (suc n) zero h = ap ask (sym (add-zero k))
-  entries-at k (suc n) (suc j) h = entries-at (suc k) n j (omega arith) ∙ ap ask (suc-add k j ∙ sym (add-suc k j))
-
-  are-entries : (out : List ℕ) → ((j : ℕ) → j < length out → getD out j 0 ≡ ask j) → out ≡ entries ask 0 (length out)
-  are-entries out h =
-      ext-getD 0 out (entries ask 0 (length out)) (sym (entries-length 0 (length out)))
-      (λ j l. h j l ∙ sym (entries-at 0 (length out) j l ∙ ap ask (zero-add j)))
 
 -- ---- the loop
 
@@ -71,7 +54,7 @@ module _ (t : Transport) (words : List ℕ) (nums : List ℤ) (dens tempos : Lis
 module _ {t : Transport} {words : List ℕ} {nums : List ℤ} {dens tempos : List ℕ} {n : ℕ} {out : List ℕ} {seg : Segment} {ahead : Stand} {behind : List Stand} {k : ℕ}
     (f : Filled t words nums dens tempos n out seg ahead behind k) where
   pub filled-all : length out ≤ k → out ≡ barLines t (pointsOf words) (tempoPoints nums dens tempos) n
-  filled-all h = let at = line t words nums dens tempos in are-entries at out (λ j l. f .below j (omega arith)) ∙ ap (entries at 0) (f .long)
+  filled-all h = let at = line t words nums dens tempos in are-entries at 0 out (λ j l. f .below j (omega arith)) ∙ ap (entries at 0) (f .long)
 
   pub place-serves : (place : ℕ) (none : Stand) → place < 4 → Serves nums dens tempos (getD behind place none .beat) (getD behind place none)
   place-serves place none h = one-serves nums dens tempos behind place none (omega (arith, f .places)) (f .others)

@@ -1,7 +1,5 @@
 -- What crates above may use of the filler.
 
--- entry j of the lines is the frame of bar j
-pub use Rattle.filler.proofs.Filling.{entries-at}
 -- no two cases of the answer read alike
 pub use Rattle.filler.proofs.Readings.{fills-apart}
 -- filled lines never descend: the promise of specs/Promise

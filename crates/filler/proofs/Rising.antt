@@ -5,7 +5,7 @@ use mathlib.Core.List.{List, [], _∷_, _++_, append-eq-nil-iff}
 use Prim.Native.Nat.{ℕ, suc, _*_}
 use native.Mathlib.Nat.{suc-ne-zero}
 use native.Mathlib.Omega.{arith}
-use lib.Dec.{T, ltb}
+use lib.Dec.{T}
 use lib.IntN.{ℤ, pos, negsuc}
 use lib.Ieee.{Float, inf, lt, le, binary32, ofBits}
 use borrow.Author.Tests.{not-false, le-ltb, eqb-true}

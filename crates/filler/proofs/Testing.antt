@@ -13,11 +13,10 @@ use Rattle.meter.specs.Meters.{pointsOf}
 use Rattle.tempo.specs.declared.MapTest.{MapTest}
 use Rattle.tempo.specs.declared.MapTest.the-variants.{Fine, TooLong}
 use Rattle.tempo.specs.Answers.{mapTest}
-use Rattle.tempo.specs.Tempos.{tempoPoints}
+use Rattle.tempo.specs.Tempos.{Parallel, tempoPoints}
 use Rattle.transport.specs.declared.Transport.{Transport}
 use Rattle.timeline.specs.declared.tests.Test.{Test}
 use Rattle.timeline.specs.declared.tests.Test.the-variants.{Sound as Passed, Refused}
-use Rattle.timeline.specs.Places.{Parallel}
 use Rattle.timeline.specs.Tests.{wordsTest, worse, mapsTest, testOf}
 use Rattle.timeline.proofs.Laws.{ifPassed, by-test, passes, both-sound, parallel}
 use Rattle.filler.specs.Fills.{barLines, linesTest, fillAnswer, fillAfter}

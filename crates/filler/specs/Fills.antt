@@ -1,10 +1,11 @@
 -- The line filler, each bar asked by itself: the whole lent list, entry k with `frame_at_bar(k)`.
 use mathlib.Core.Bool.{cond}
-use mathlib.Core.List.{List, [], _∷_}
-use Prim.Native.Nat.{ℕ, zero, suc}
+use mathlib.Core.List.{List}
+use Prim.Native.Nat.{ℕ}
 use lib.Dec.{leb}
 use lib.IntN.{ℤ}
 use lib.ListN.{length}
+use Rattle.numbers.specs.Lists.{entries}
 use Rattle.numbers.specs.Answers.{Answer, accepted, given}
 use Rattle.meter.specs.declared.MeterPoint.{MeterPoint}
 use Rattle.meter.specs.Meters.{pointsOf}
@@ -14,11 +15,6 @@ use Rattle.tempo.specs.Tempos.{TempoPoint, tempoPoints}
 use Rattle.transport.specs.declared.Transport.{Transport}
 use Rattle.timeline.specs.Places.{frameAtBar}
 use Rattle.timeline.specs.Tests.{worse, mapsTest, ifTested}
-
--- n entries, the first with what is asked of bar k
-unfoldable pub entries : (ℕ → ℕ) → ℕ → ℕ → List ℕ
-entries ask k zero = []
-entries ask k (suc n) = ask k ∷ entries ask (suc k) n
 
 -- the first n bar lines
 abbrev pub barLines : Transport → List MeterPoint → List TempoPoint → ℕ → List ℕ

@@ -2,11 +2,11 @@
 use mathlib.Core.Bool.{cond}
 use mathlib.Core.Path.{_≡_}
 use mathlib.Core.List.{List, [], _∷_}
-use Prim.Native.Nat.{ℕ, zero, suc, _+_, _*_, _<_}
+use Prim.Native.Nat.{ℕ, zero, suc, _*_, _<_}
 use lib.Dec.{eqb, ltb}
 use lib.ListN.{length, getD}
 use Rattle.meter.specs.declared.MeterPoint.{MeterPoint}
-use Rattle.meter.specs.Meters.{fallback}
+use Rattle.meter.specs.Meters.{fallback, pointAt}
 
 -- ---- the point listed last for a bar
 
@@ -36,4 +36,4 @@ forceOf map bar = forceFrom 0 map bar 0
 
 unfoldable pub numbered : List ℕ → ℕ → ℕ → MeterPoint
 numbered words default zero = fallback default
-numbered words default (suc i) = record { bar = getD words (i * 3) 0; numerator = getD words (i * 3 + 1) 0; denominator = getD words (i * 3 + 2) 0 }
+numbered words default (suc i) = pointAt words (i * 3)

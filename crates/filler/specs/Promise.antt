@@ -19,7 +19,7 @@ unfoldable pub allSmall : List Listed → Bool
 allSmall [] = true
 allSmall (point ∷ rest) = (leZ (point .at .num) (pos 9007199254740992) && leb (point .at .den) 4294967295) && allSmall rest
 
--- a score whose lines do not descend
+-- a score that fits, with a tempo map that has no problems and no numerator above 2^53
 pub record InOrder (t : Transport) (words : List ℕ) (nums : List ℤ) (dens tempos : List ℕ) : Type 0 where
   pub fits : Fits (pointsOf words) (t .«beats_per_bar») (t .pickup)
   pub sound : tempoProblems (listed nums dens tempos) ≡ []

@@ -11,8 +11,7 @@ ghost use mathlib.Core.Path.{_≡_};
 ghost use Prim.Native.Nat.{_≤_};
 ghost use lib.ListN.{length};
 ghost use Rattle.meter.specs.Meters.{pointsOf};
-ghost use Rattle.tempo.specs.Tempos.{tempoPoints};
-ghost use Rattle.timeline.specs.Places.{Parallel};
+ghost use Rattle.tempo.specs.Tempos.{Parallel, tempoPoints};
 ghost use Rattle.filler.specs.Fills.{barLines};
 
 pub fn fill(

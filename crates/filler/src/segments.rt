@@ -72,7 +72,7 @@ fn begins(bar: u32, mark: u64) -> bool
     if bar <= 1 { bar == 1 } else { mark > 0 }
 }
 
-// The segment that the next bar lies in: a new one where a point is listed for it.
+// The segment that the next bar lies in: a new one where the bar begins one.
 pub fn on_to(t: Transport, words: &[u32], bar: u32, mark: u64, segment: Segment) -> Segment
     requires { ⌜ Before (pointsOf (now words)) (t .«beats_per_bar») (t .pickup) bar segment ⌝ }
     requires { ⌜ mark ≡ markOf (pointsOf (now words)) bar ⌝ }

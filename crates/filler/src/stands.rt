@@ -9,8 +9,8 @@ use transport::Transport;
 ghost use mathlib.Core.Path.{_≡_};
 ghost use Prim.Native.Nat.{_%_};
 ghost use lib.Ieee.{toBits, binary64};
-ghost use Rattle.tempo.specs.Tempos.{tempoPoints};
-ghost use Rattle.timeline.specs.Places.{Parallel, frameAtBeat};
+ghost use Rattle.tempo.specs.Tempos.{Parallel, tempoPoints};
+ghost use Rattle.timeline.specs.Places.{frameAtBeat};
 ghost use Rattle.filler.specs.Carried.{Serves, ServesAll, Stopped};
 
 pub struct Stand {

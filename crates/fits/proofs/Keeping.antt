@@ -1,17 +1,15 @@
 -- The call keeps its promise: the tests before the decision refuse no score that fits.
 use mathlib.Core.Path.{_≡_, sym, ap, _∙_}
 use mathlib.Core.Bool.{Bool, true, false, cond}
-use mathlib.Core.List.{List, []}
-use Prim.Native.Nat.{ℕ, _*_, _%_, _≤_}
+use mathlib.Core.List.{[]}
+use Prim.Native.Nat.{ℕ, _*_, _%_}
 use native.Mathlib.Omega.{arith}
 use lib.Dec.{leb, eqb}
 use lib.ListN.{length}
 use Rattle.numbers.specs.Answers.{accepted, refused}
-use Rattle.meter.specs.declared.MeterPoint.{MeterPoint}
-use Rattle.meter.specs.declared.Pickup.{Pickup}
 use Rattle.meter.specs.Meters.{pointsOf, soundPickup}
-use Rattle.meter.specs.Fits.{soundMap, forwardPickup, numeratorsUpTo, smallPickup, Fits}
-use Rattle.meter.proofs.Laws.{points-length, points-few, forward-sound, passed, suffices}
+use Rattle.meter.specs.Fits.{Fits}
+use Rattle.meter.proofs.Laws.{points-length, points-few, forward-sound, passed}
 use Rattle.fits.specs.declared.FitsAnswer.the-variants as F
 use Rattle.fits.specs.Decision.{fitsBool}
 use Rattle.fits.specs.Readings.{readFits}
@@ -19,13 +17,8 @@ use Rattle.fits.specs.Promise.{Exact, FitsPromise}
 use Rattle.fits.proofs.Readings.{fits-apart}
 use Rattle.fits.proofs.Exactly.{decided, complete}
 
-pub fits-exactly : (map : List MeterPoint) (default : ℕ) (pickup : Pickup) → Exact map default pickup
-fits-exactly map default pickup = record { decided = decided map default pickup; complete = complete map default pickup }
-
--- the bounds of document 01 suffice for a yes
-pub within-bounds : (map : List MeterPoint) (default : ℕ) (pickup : Pickup) → soundMap map ≡ true → numeratorsUpTo 4096 map ≡ true → default ≤ 4096
-    → forwardPickup pickup ≡ true → smallPickup pickup ≡ true → fitsBool map default pickup ≡ true
-within-bounds map default pickup sound numerators small forward short = complete map default pickup (suffices map default pickup sound forward numerators small short)
+pub fits-exactly : Exact
+fits-exactly map default pickup = (decided map default pickup, complete map default pickup)
 
 -- an accepted answer stood behind all tests
 behind : (even few sound fine : Bool) → accepted true ≡ cond even (cond few (cond sound (accepted fine) (refused 1 [])) (refused 4 [])) (refused 3 []) → fine ≡ true

@@ -8,7 +8,7 @@ use lib.Dec.{leb}
 use lib.IntN.{ℤ, pos, negsuc, _*ℤ_, _+ℤ_}
 use lib.Signed.{leZ}
 use borrow.Author.Tests.{leb-true}
-use Rattle.numbers.specs.Answers.{Answer, accepted, refused, isAccepted}
+use Rattle.numbers.specs.Answers.{Answer, accepted, refused, isAccepted, then}
 use Rattle.numbers.specs.Signs.{inI64}
 use Rattle.numbers.proofs.Laws.{never, by-order, up, down, up-times, and-left, and-right, natural}
 use Rattle.beats.specs.declared.Beat.{Beat}
@@ -18,7 +18,7 @@ use Rattle.beats.specs.Values.{Worth}
 use Rattle.beats.proofs.Laws.{den-divides, beat-above, beat-lowest, accepted-beat, accepted-value, accepted-fits, scaled-value, scaled, added, value-forward}
 use Rattle.meter.specs.declared.MeterPoint.{MeterPoint}
 use Rattle.meter.specs.Meters.{lenOf}
-use Rattle.meter.specs.Starts.{then, checkedBars}
+use Rattle.meter.specs.Starts.{checkedBars}
 use Rattle.meter.specs.Fits.{goodDen}
 use Rattle.meter.proofs.Laws.{then-accepted, sixteenths, good-len}
 use Rattle.fits.proofs.Odd.{odd-den, odd-num, by-parity}

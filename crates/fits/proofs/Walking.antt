@@ -6,12 +6,12 @@ use Prim.Native.Nat.{ℕ, min, max, _+_, _-_, _<_, _≤_}
 use lib.IntN.{pos}
 use lib.ListN.{length, getD}
 use borrow.Author.Tests.{lt-ltb, le-ltb}
-use Rattle.numbers.specs.Answers.{Answer, accepted, refused, isAccepted}
+use Rattle.numbers.specs.Answers.{Answer, accepted, refused, isAccepted, then}
 use Rattle.beats.specs.declared.Beat.{Beat}
 use Rattle.beats.specs.Sums.{addBeats, mulBeat}
 use Rattle.meter.specs.declared.MeterPoint.{MeterPoint}
 use Rattle.meter.specs.Meters.{pointAt, lenOf}
-use Rattle.meter.specs.Starts.{then, checkedBars}
+use Rattle.meter.specs.Starts.{checkedBars}
 use Rattle.meter.specs.Fits.{lastBar}
 use Rattle.meter.proofs.Laws.{left, points-step, points-end}
 use Rattle.fits.specs.Decision.{segment, reach, walked}

@@ -3,14 +3,14 @@ use mathlib.Core.Bool.{Bool, cond, _&&_}
 use mathlib.Core.List.{List, [], _∷_}
 use Prim.Native.Nat.{ℕ, min, max, _-_}
 use lib.Dec.{ltb}
-use Rattle.numbers.specs.Answers.{Answer, accepted, refused, isAccepted}
+use Rattle.numbers.specs.Answers.{Answer, accepted, refused, isAccepted, then}
 use Rattle.beats.specs.declared.Beat.{Beat}
 use Rattle.beats.specs.Beats.{zeroBeat}
 use Rattle.beats.specs.Sums.{addBeats}
 use Rattle.meter.specs.declared.MeterPoint.{MeterPoint}
 use Rattle.meter.specs.declared.Pickup.{Pickup}
 use Rattle.meter.specs.Meters.{fallback, lenOf, barLen}
-use Rattle.meter.specs.Starts.{then, checkedBars}
+use Rattle.meter.specs.Starts.{checkedBars}
 use Rattle.meter.specs.Fits.{soundMap, forwardPickup, lastBar}
 
 -- the beat behind n bars of one length, n above 0; refused where it is, or where the start of the bar before is. For the lengths of sound meters these two stand for

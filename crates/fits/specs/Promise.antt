@@ -15,11 +15,12 @@ use Rattle.fits.specs.Answers.{fitsAnswer}
 use Rattle.fits.specs.Readings.{readFits}
 
 -- the decision is yes exactly for a score that fits
-pub record Exact (map : List MeterPoint) (default : ℕ) (pickup : Pickup) : Type 0 where
-  pub decided : fitsBool map default pickup ≡ true → Fits map default pickup
-  pub complete : Fits map default pickup → fitsBool map default pickup ≡ true
+abbrev pub Exact : Type 0
+Exact =
+    (map : List MeterPoint) (default : ℕ) (pickup : Pickup)
+    → (fitsBool map default pickup ≡ true → Fits map default pickup) × (Fits map default pickup → fitsBool map default pickup ≡ true)
 
--- the same of the call, for all words and pickups
+-- the same of the call: a yes is right for all words and pickups, and given of all words that are three a point
 abbrev pub FitsPromise : Type 0
 FitsPromise =
     (words : List ℕ) (default : ℕ) (pickup : Pickup) (answer : FitsAnswer)

@@ -8,10 +8,10 @@ use meter::Pickup;
 use meter::bars;
 ghost use mathlib.Core.Path.{_≡_};
 ghost use Prim.Native.Nat.{min, _<_};
-ghost use Rattle.numbers.specs.Answers.{isAccepted};
+ghost use Rattle.numbers.specs.Answers.{isAccepted, then};
 ghost use Rattle.beats.specs.Readings.{readBeat};
 ghost use Rattle.meter.specs.Meters.{pointsOf, fallback};
-ghost use Rattle.meter.specs.Starts.{then, checkedBars};
+ghost use Rattle.meter.specs.Starts.{checkedBars};
 ghost use Rattle.meter.specs.Fits.{lastBar};
 ghost use Rattle.fits.specs.Decision.{segment, reach, walked, walkFits};
 

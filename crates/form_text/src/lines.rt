@@ -4,7 +4,6 @@ use beats::Beat;
 use meter::Pickup;
 use score::Score;
 use text::put;
-ghost use mathlib.Core.Path.{_≡_};
 ghost use Prim.Native.Nat.{_+_, _*_, _≤_};
 ghost use lib.ListN.{length};
 ghost use Rattle.text.specs.Texts.{Puts};

@@ -10,7 +10,7 @@ use lib.IntN.{ℤ, pos, _*ℤ_}
 use lib.Signed.{leZ}
 use lib.ListN.{length}
 use borrow.Author.Tests.{leb-true, ltb-true, eqb-true}
-use Rattle.numbers.specs.Answers.{Answer, accepted, isAccepted}
+use Rattle.numbers.specs.Answers.{Answer, accepted, isAccepted, then}
 use Rattle.numbers.proofs.Laws.{by-order, up, and-left, and-right, not-negative, natural}
 use Rattle.beats.specs.declared.Beat.{Beat}
 use Rattle.beats.specs.Beats.{isBeat, zeroBeat}
@@ -21,7 +21,7 @@ use Rattle.meter.specs.declared.MeterPoint.{MeterPoint}
 use Rattle.meter.specs.declared.Pickup.{Pickup}
 use Rattle.meter.specs.declared.Pickup.the-variants.{Absent, Present}
 use Rattle.meter.specs.Meters.{later, lastAt, fallback, meterAt, lenOf, barLen, nextChange}
-use Rattle.meter.specs.Starts.{then, checkedBars, checkedSegments, checkedStart}
+use Rattle.meter.specs.Starts.{checkedBars, checkedSegments, checkedStart}
 use Rattle.meter.specs.Fits.{goodDen, soundFrom, firstZero, soundMap, forwardPickup, numeratorsUpTo, smallPickup}
 use Rattle.meter.specs.Promise.{BoundsPromise}
 use Rattle.meter.proofs.Walking.{next-le, next-gt, later-in, later-out, len-rest, checked-end, checked-more}

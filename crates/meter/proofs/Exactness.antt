@@ -7,7 +7,7 @@ use native.Mathlib.Nat.{zero-mul, add-zero, add-suc, mul-pos}
 use native.Mathlib.Omega.{arith}
 use lib.IntN.{ℤ, pos, _+ℤ_, _*ℤ_}
 use lib.Signed.{leZ}
-use Rattle.numbers.specs.Answers.{Answer, accepted, refused, isAccepted}
+use Rattle.numbers.specs.Answers.{Answer, accepted, refused, isAccepted, then}
 use Rattle.numbers.proofs.Laws.{by-order, down, eq-parts, sum-parts, up-times, down-times, and-left, and-right, not-both, not-negative, grows}
 use Rattle.beats.specs.declared.Beat.{Beat}
 use Rattle.beats.specs.Beats.{isBeat, zeroBeat}
@@ -18,7 +18,7 @@ use Rattle.meter.specs.declared.MeterPoint.{MeterPoint}
 use Rattle.meter.specs.declared.Pickup.{Pickup}
 use Rattle.meter.specs.declared.Pickup.the-variants.{Absent, Present}
 use Rattle.meter.specs.Meters.{meterAt, lenOf, barLen, nextChange}
-use Rattle.meter.specs.Starts.{afterBars, segments, startOf, then, checkedBars, checkedSegments, checkedStart, exactStart}
+use Rattle.meter.specs.Starts.{afterBars, segments, startOf, checkedBars, checkedSegments, checkedStart, exactStart}
 use Rattle.meter.specs.Fits.{forwardPickup}
 use Rattle.meter.proofs.Walking.{next-le, next-gt, bars-stopped, len-rest, len-same, segments-end, segments-more, checked-end, checked-more}
 

@@ -13,9 +13,13 @@ use Rattle.meter.specs.Meters.{pointsOf, meterAt, barLen, soundPickup}
 use Rattle.meter.specs.Starts.{startOf}
 use Rattle.meter.specs.Counts.{countAt}
 
+-- of three: where the words are three a point and there are at most 65,536 points; where there are more; and where they are not three a point
+abbrev pub byWords : {A : Type 0} → List ℕ → A → A → A → A
+byWords words fine long uneven = cond (eqb (length words % 3) 0) (cond (leb (length words) (65536 * 3)) fine long) uneven
+
 -- 3 where the words are not three a point, 4 where there are over 65,536 points
 abbrev pub ifMap : {A : Type 0} → List ℕ → Answer A → Answer A
-ifMap words answer = cond (eqb (length words % 3) 0) (cond (leb (length words) (65536 * 3)) answer (refused 4 [])) (refused 3 [])
+ifMap words answer = byWords words answer (refused 4 []) (refused 3 [])
 
 -- 1 where the pickup is no beat
 abbrev pub ifPickup : {A : Type 0} → Pickup → Answer A → Answer A

@@ -4,7 +4,7 @@ use mathlib.Core.List.{List, [], _∷_}
 use Prim.Native.Nat.{ℕ, zero, suc, _-_}
 use lib.Dec.{ltb, leb}
 use lib.IntN.{pos}
-use Rattle.numbers.specs.Answers.{Answer, accepted, refused}
+use Rattle.numbers.specs.Answers.{Answer, accepted, then}
 use Rattle.beats.specs.declared.Beat.{Beat}
 use Rattle.beats.specs.Beats.{zeroBeat}
 use Rattle.beats.specs.Sums.{addBeats, mulBeat, orMost, sumOf}
@@ -51,11 +51,6 @@ unfoldable pub openingOf : List MeterPoint → ℕ → Pickup → Opening
 openingOf map default pickup = record { ascending = ascends 0 map; one = orMost (addBeats zeroBeat (barLen map default pickup 0)) }
 
 -- ---- the same walk, refused as soon as one of its operations is
-
--- what `next` makes of an accepted beat; a refusal stays
-abbrev pub then : Answer Beat → (Beat → Answer Beat) → Answer Beat
-then (accepted beat) next = next beat
-then (refused n facts) next = refused n facts
 
 unfoldable pub checkedBars : Beat → Beat → ℕ → Answer Beat
 checkedBars at len n = then (mulBeat len (pos n) 1) (λ span. addBeats at span)

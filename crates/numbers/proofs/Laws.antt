@@ -26,6 +26,6 @@ pub use Rattle.numbers.proofs.Parts.{minus-times, times-times, sum-time
 pub use Rattle.numbers.proofs.Orders.{isLess, less-is, equal-only, same-equal, turned, exchanged, order-minus, order-times}
 -- by the order of two numbers; products
 pub use Rattle.numbers.proofs.Words.{by-order, ltb-same, product-fits, factor-zero, one-more}
--- lists written into lent ones
-pub use Rattle.numbers.proofs.Lists.{sets-append, drop-four}
+-- lists by their entries, and written into lent ones
+pub use Rattle.numbers.proofs.Lists.{entries-length, are-entries, sets-append, drop-four}
 pub use Rattle.numbers.proofs.Writing.{Writing, begin, begin-by, more, finish, in-place, ahead, skip, more-word, copy-more, copied, move}

@@ -1,12 +1,35 @@
--- Words stored from a place on: one list behind another is stored as the two, the second where the first ends. And four words read from a place on.
-use mathlib.Core.Path.{_≡_, sym, ap, _∙_}
+-- Lists by their entries. Words stored from a place on: one list behind another is stored as the two, the second where the first ends. And four words read from a place on.
+use mathlib.Core.Path.{_≡_, refl, sym, ap, _∙_}
 use mathlib.Core.List.{List, [], _∷_, _++_}
-use Prim.Native.Nat.{ℕ, suc, _+_, _≤_}
-use native.Mathlib.Nat.{add-zero, add-suc, suc-add}
+use Prim.Native.Nat.{ℕ, zero, suc, _+_, _≤_, _<_}
+use native.Mathlib.Nat.{add-zero, zero-add, add-suc, suc-add}
 use native.Mathlib.Numerals.{add-one, add-two, add-three, add-four}
 use native.Mathlib.Omega.{arith}
 use lib.ListN.{length, drop, getD, set}
-use lib.Seq.{sets, drop-cons}
+use lib.Seq.{sets, drop-cons, ext-getD}
+use Rattle.numbers.specs.Lists.{entries}
+
+-- ---- entries
+
+module _ {A : Type 0} (f : ℕ → A) where
+  pub entries-length : (k n : ℕ) → length (entries f k n) ≡ n
+  unfolding entries
+  entries-length k zero = refl
+  entries-length k (suc n) = ap suc (entries-length (suc k) n)
+
+  entries-at : (d : A) (k n j : ℕ) → j < n → getD (entries f k n) j d ≡ f (k + j)
+  unfolding entries
+  entries-at d k zero j h = absurd (omega arith)
+  entries-at d k (suc n) zero h = ap f (sym (add-zero k))
+  entries-at d k (suc n) (suc j) h = entries-at d (suc k) n j (omega arith) ∙ ap f (suc-add k j ∙ sym (add-suc k j))
+
+  -- a list is the entries from 0 on that stand in it
+  pub are-entries : (d : A) (xs : List A) → ((j : ℕ) → j < length xs → getD xs j d ≡ f j) → xs ≡ entries f 0 (length xs)
+  are-entries d xs h =
+      ext-getD d xs (entries f 0 (length xs)) (sym (entries-length 0 (length xs)))
+      (λ j l. h j l ∙ sym (entries-at d 0 (length xs) j l ∙ ap f (zero-add j)))
+
+-- ---- words
 
 pub sets-append : (out : List ℕ) (at : ℕ) (vs ws : List ℕ) → sets out at (vs ++ ws) ≡ sets (sets out at vs) (at + length vs) ws
 sets-append out at [] ws = ap (λ (n : ℕ). sets out n ws) (sym (add-zero at))

@@ -1,4 +1,4 @@
--- What a call answers, in the numbers of document 01. Every crate reads its enums through this.
+-- What a call answers, in the numbers of document 01. The enums that have such a number are read through this.
 use Prim.Native.Nat.{ℕ}
 use mathlib.Core.Path.{_≡_}
 use mathlib.Core.Bool.{Bool, true, false}
@@ -23,6 +23,11 @@ isAccepted (refused n facts) = false
 abbrev pub given : {A B : Type 0} → (A → B) → Answer A → B → B
 given part (accepted a) old = part a
 given part (refused number facts) old = old
+
+-- what `next` makes of what an accepted call gives; a refusal stays
+abbrev pub then : {A B : Type 0} → Answer A → (A → Answer B) → Answer B
+then (accepted a) next = next a
+then (refused number facts) next = refused number facts
 
 -- what is written over a list from its start; later words stay
 abbrev pub over : {A : Type 0} → List A → List A → List A

@@ -3,3 +3,4 @@ pub mod Signs
 pub mod Bits
 pub mod Divisor
 pub mod Exacts
+pub mod Lists

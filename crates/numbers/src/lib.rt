@@ -12,6 +12,8 @@ pub mod exact;
 
 const MOST: u64 = 0xffff_ffff_ffff_ffff;
 
+const MOST_SIGNED: u64 = 0x7fff_ffff_ffff_ffff;
+
 // Whether x is below zero.
 pub fn negative(x: i64) -> bool
     ensures { λ r. ⌜ r ≡ isNeg x ⌝ }
@@ -26,17 +28,6 @@ pub fn magnitude(x: i64) -> u64
     if x < 0 { (-1 - x) as u64 + 1 } else { x as u64 }
 }
 
-// The largest i64, or n where that is less.
-fn below_half(n: u64) -> u64
-    ensures { λ r. ⌜ r ≡ min n (2 ^ 63 - 1) ⌝ }
-{
-    if n > 0x7fff_ffff_ffff_ffff {
-        0x7fff_ffff_ffff_ffff
-    } else {
-        n
-    }
-}
-
 // The number with this sign and this size, stopped at the ends of an i64.
 pub fn signed(neg: bool, size: u64) -> i64
     ensures { λ r. ⌜ r ≡ toI64 (withSign neg size) ⌝ }
@@ -45,10 +36,10 @@ pub fn signed(neg: bool, size: u64) -> i64
         if size == 0 {
             0
         } else {
-            -1 - below_half(size - 1) as i64
+            -1 - smaller(size - 1, MOST_SIGNED) as i64
         }
     } else {
-        below_half(size) as i64
+        smaller(size, MOST_SIGNED) as i64
     }
 }
 
@@ -72,6 +63,13 @@ pub fn as_bits(x: i64) -> u64
     } else {
         magnitude(x)
     }
+}
+
+// The smaller of two numbers.
+pub fn smaller(a: u64, b: u64) -> u64
+    ensures { λ r. ⌜ r ≡ min a b ⌝ }
+{
+    if a < b { a } else { b }
 }
 
 // The larger of two numbers.
@@ -99,11 +97,7 @@ pub fn saturating_mul(a: u64, b: u64) -> u64
 pub fn to_u32(n: u64) -> u32
     ensures { λ r. ⌜ r ≡ min n (2 ^ 32 - 1) ⌝ }
 {
-    if n > 0xffff_ffff {
-        0xffff_ffff
-    } else {
-        n as u32
-    }
+    smaller(n, 0xffff_ffff) as u32
 }
 
 // The greatest common divisor, by recursion on the remainder. A remainder of 1 ends it early: no

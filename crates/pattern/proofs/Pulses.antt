@@ -5,10 +5,11 @@ use mathlib.Core.Path.{_≡_, sym, ap, _∙_}
 use Prim.Native.Nat.{ℕ, _≤_, _<_}
 use lib.Dec.{ltb, eqb}
 use borrow.Author.Tests.{lt-ltb, le-ltb, eq-eqb, ne-eqb}
+use Rattle.numbers.specs.Lists.{entries}
 use Rattle.numbers.specs.Answers.{Answer, accepted, refused}
 use Rattle.notes.specs.declared.Note.{Note}
 use Rattle.rhythm.specs.declared.making.Spread.the-variants.{Pulses}
-use Rattle.rhythm.specs.Makes.{row, hit, hitsFrom, hitAt}
+use Rattle.rhythm.specs.Makes.{hit, hitsFrom, hitAt}
 use Rattle.rhythm.specs.Values.{barsFor}
 use Rattle.rhythm.proofs.Laws.{even-hits}
 use Rattle.pattern.specs.Calls.{euclideanOf}
@@ -28,7 +29,7 @@ module _ (pulses steps tag len stepsPerBar : ℕ) where
     pub too-many : steps < pulses → euclideanOf pulses steps tag len stepsPerBar ≡ refused 6 []
     too-many h = numbers true (simp (ne-eqb _ _ s, lt-ltb _ _ h))
 
-    pub spread : pulses ≤ steps → euclideanOf pulses steps tag len stepsPerBar ≡ accepted (phrase (row (hitAt (Pulses pulses steps) len tag) 0 pulses) (barsFor steps stepsPerBar))
+    pub spread : pulses ≤ steps → euclideanOf pulses steps tag len stepsPerBar ≡ accepted (phrase (entries (hitAt (Pulses pulses steps) len tag) 0 pulses) (barsFor steps stepsPerBar))
     spread h =
         numbers false (simp (ne-eqb _ _ s, le-ltb _ _ h))
         ∙ ap (λ (l : List Note). accepted (phrase l (barsFor steps stepsPerBar))) (sym (even-hits pulses steps h (hit len tag)))

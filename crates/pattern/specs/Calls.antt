@@ -5,6 +5,7 @@ use Prim.Native.Nat.{ℕ, _+_, _*_, min, max}
 use lib.Dec.{ltb, eqb}
 use lib.Ieee.{Float}
 use lib.IntN.{ℤ}
+use Rattle.numbers.specs.Lists.{entries}
 use Rattle.numbers.specs.Answers.{Answer, accepted, refused}
 use Rattle.notes.specs.declared.Note.{Note}
 use Rattle.notes.specs.Notes.{notesOf}
@@ -13,7 +14,7 @@ use Rattle.rhythm.specs.declared.changing.Change.{Change}
 use Rattle.rhythm.specs.Changes.{rotated, mirrored, snapped, scaled, gated, changed}
 use Rattle.rhythm.specs.Cuts.{window, gridOf, stretched}
 use Rattle.rhythm.specs.Joins.{copiesFrom, joined}
-use Rattle.rhythm.specs.Makes.{hit, hitsFrom, row, tupletStep}
+use Rattle.rhythm.specs.Makes.{hit, hitsFrom, tupletStep}
 use Rattle.rhythm.specs.Values.{mostStep, totalSteps, barsFor, stretchedBy}
 use Rattle.pattern.specs.declared.Pattern.{Pattern}
 use Rattle.pattern.specs.Phrases.{Phrase, phrase, ifNotes, ifBoth}
@@ -103,4 +104,4 @@ euclideanOf pulses steps tag len stepsPerBar =
 
 -- one bar
 abbrev pub tupletOf : ℕ → ℕ → ℕ → ℕ → Answer Phrase
-tupletOf count steps tag len = accepted (phrase (row (λ k. hit len tag (tupletStep count steps k)) 0 count) 1)
+tupletOf count steps tag len = accepted (phrase (entries (λ k. hit len tag (tupletStep count steps k)) 0 count) 1)

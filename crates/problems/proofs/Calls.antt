@@ -32,4 +32,4 @@ module _ (problems : List Problem) (out : List ℕ) where
 -- ---- a tempo map
 
 pub few : (nums : List ℤ) (dens tempos : List ℕ) → Walkable nums dens tempos → length (tempoProblems (listed nums dens tempos)) ≤ 327680
-few nums dens tempos map = omega (arith, tempo-few (listed nums dens tempos), listed-length nums dens tempos (map .even-dens) (map .even-tempos), map .short)
+few nums dens tempos map = omega (arith, tempo-few (listed nums dens tempos), listed-length nums dens tempos (map .even .even-dens) (map .even .even-tempos), map .short)

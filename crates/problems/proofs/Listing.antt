@@ -36,15 +36,15 @@ listed-next (num ∷ nums) (den ∷ dens) (bits ∷ tempos) d t (suc i) h = list
 module _ (nums : List ℤ) (dens tempos : List ℕ) (map : Walkable nums dens tempos) where
   pub tempo-all : (before : Beat) → tempoFrom (length nums) 0 before (listed nums dens tempos) ≡ tempoProblems (listed nums dens tempos)
   tempo-all before =
-      ap (λ (n : ℕ). tempoFrom n 0 before (listed nums dens tempos)) (sym (listed-length nums dens tempos (map .even-dens) (map .even-tempos)))
+      ap (λ (n : ℕ). tempoFrom n 0 before (listed nums dens tempos)) (sym (listed-length nums dens tempos (map .even .even-dens) (map .even .even-tempos)))
       ∙ tempo-whole before (listed nums dens tempos)
 
   pub tempo-next : (n i : ℕ) (before : Beat) → i < length nums
       → tempoFrom n i before (drop i (listed nums dens tempos))
       ≡ tempoAt n i before (listedPoint nums dens tempos i) ++ tempoFrom n (i + 1) (beatAt nums dens i) (drop (i + 1) (listed nums dens tempos))
   unfolding tempoFrom
-  tempo-next n i before h = rw add-one (ap (tempoFrom n i before) (listed-next nums dens tempos (map .even-dens) (map .even-tempos) i h))
+  tempo-next n i before h = rw add-one (ap (tempoFrom n i before) (listed-next nums dens tempos (map .even .even-dens) (map .even .even-tempos) i h))
 
   pub tempo-end : (n i : ℕ) (before : Beat) → length nums ≤ i → tempoFrom n i before (drop i (listed nums dens tempos)) ≡ []
   unfolding tempoFrom
-  tempo-end n i before h = ap (tempoFrom n i before) (drop-of-length-le (listed nums dens tempos) {i = i} (omega (arith, listed-length nums dens tempos (map .even-dens) (map .even-tempos))))
+  tempo-end n i before h = ap (tempoFrom n i before) (drop-of-length-le (listed nums dens tempos) {i = i} (omega (arith, listed-length nums dens tempos (map .even .even-dens) (map .even .even-tempos))))

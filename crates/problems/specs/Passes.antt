@@ -1,4 +1,4 @@
--- What the functions below the calls do, for their contracts alone: a pass over a map, which counts its records or writes them too, and the walk that passes over the points of a meter map twice. The calls promise the problems of `Problems`; that the passes give these is proved (proofs/Wholes).
+-- What the functions below the calls do, for their contracts and the laws that join them: a pass over a map, which counts its records or writes them too, and the walk that passes over the points of a meter map twice. The calls promise the problems of `Problems`; that the passes give these is proved (proofs/Wholes).
 use mathlib.Core.Bool.{Bool, true, false, not, cond, _&&_}
 use mathlib.Core.Path.{_≡_}
 use mathlib.Core.List.{List, [], _∷_, _++_}

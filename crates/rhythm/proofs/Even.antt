@@ -8,7 +8,6 @@ use native.Mathlib.Nat.{mod-lt, div-add-mod', div-eq-of-lt-le, lt-of-mul-lt-mul-
 use native.Mathlib.Numerals.{add-one}
 use native.Mathlib.Omega.{arith}
 use lib.Dec.{ltb}
-use lib.ListN.{length}
 use borrow.Author.Tests.{ltb-true, ltb-false, le-ltb}
 use Rattle.numbers.proofs.Laws.{by-order}
 use Rattle.rounding.specs.Floats.{wholeAbove}
@@ -16,24 +15,20 @@ use Rattle.notes.specs.declared.Note.{Note}
 use Rattle.notes.specs.Notes.{wordsOf, noteWords}
 use Rattle.rhythm.specs.declared.making.Spread.the-variants.{Pulses, Tuplet}
 use Rattle.rhythm.specs.declared.making.Spread.{Spread}
-use Rattle.rhythm.specs.Makes.{row, hitsFrom, Within, Held}
+use Rattle.numbers.specs.Lists.{entries}
+use Rattle.rhythm.specs.Makes.{hitsFrom, Within, Held}
 
 -- ---- rows of notes
 
-pub length-row : (note : ℕ → Note) (k n : ℕ) → length (row note k n) ≡ n
-unfolding row
-length-row note k zero = refl
-length-row note k (suc n) = ap suc (length-row note (suc k) n)
-
 -- what the filler writes in the turn at k, and what is left
-pub row-turn : (note : ℕ → Note) (k count : ℕ) (m : Note) → k < count → m ≡ note k → wordsOf (row note k (count - k)) ≡ noteWords m ++ wordsOf (row note (k + 1) (count - (k + 1)))
-unfolding row wordsOf
+pub row-turn : (note : ℕ → Note) (k count : ℕ) (m : Note) → k < count → m ≡ note k → wordsOf (entries note k (count - k)) ≡ noteWords m ++ wordsOf (entries note (k + 1) (count - (k + 1)))
+unfolding entries wordsOf
 row-turn note k count m h q =
     let e : count - k ≡ suc (count - (k + 1)) = omega arith in
-    rw (e, add-one) (ap (λ (x : Note). noteWords x ++ wordsOf (row note (suc k) (count - suc k))) (sym q))
+    rw (e, add-one) (ap (λ (x : Note). noteWords x ++ wordsOf (entries note (suc k) (count - suc k))) (sym q))
 
-pub row-end : (note : ℕ → Note) (k count : ℕ) → count ≤ k → wordsOf (row note k (count - k)) ≡ []
-unfolding row wordsOf
+pub row-end : (note : ℕ → Note) (k count : ℕ) → count ≤ k → wordsOf (entries note k (count - k)) ≡ []
+unfolding entries wordsOf
 row-end note k count h = let e : count - k ≡ 0 = omega arith in rw e
 
 pub held-within : (how : Spread) (count k : ℕ) → Held how count → k < count → Within how k
@@ -103,15 +98,15 @@ module _ (p s : ℕ) (pos-p : 0 < p) (le : p ≤ s) where
     abbrev pulse : ℕ → Note
     pulse k = note (wholeAbove (k * s) p)
 
-    from : (n i k : ℕ) → i + n ≡ s → Before i k → hitsFrom p s note i n ≡ row pulse k (p - k)
-    unfolding hitsFrom row
-    from zero i k e b = let q : i ≡ s = omega arith in sym (ap (row pulse k) (all-gone k (subst (λ (x : ℕ). Before x k) q b)))
+    from : (n i k : ℕ) → i + n ≡ s → Before i k → hitsFrom p s note i n ≡ entries pulse k (p - k)
+    unfolding hitsFrom entries
+    from zero i k e b = let q : i ≡ s = omega arith in sym (ap (entries pulse k) (all-gone k (subst (λ (x : ℕ). Before x k) q b)))
     from (suc n) i k e b = go (ltb (i * p % s) p) refl (from n (suc i) (suc k) (omega arith)) (from n (suc i) k (omega arith))
       where
         go : (t : Bool) → ltb (i * p % s) p ≡ t
-            → (Before (suc i) (suc k) → hitsFrom p s note (suc i) n ≡ row pulse (suc k) (p - suc k))
-            → (Before (suc i) k → hitsFrom p s note (suc i) n ≡ row pulse k (p - k))
-            → elim t [ true ↦ note i ∷ hitsFrom p s note (suc i) n | false ↦ hitsFrom p s note (suc i) n ] ≡ row pulse k (p - k)
+            → (Before (suc i) (suc k) → hitsFrom p s note (suc i) n ≡ entries pulse (suc k) (p - suc k))
+            → (Before (suc i) k → hitsFrom p s note (suc i) n ≡ entries pulse k (p - k))
+            → elim t [ true ↦ note i ∷ hitsFrom p s note (suc i) n | false ↦ hitsFrom p s note (suc i) n ] ≡ entries pulse k (p - k)
         go true q f g =
             let h : i * p % s < p = ltb-true _ _ q in
             let l : k < p = left i k b (omega arith) h in
@@ -127,9 +122,9 @@ none-hit s note (suc n) i =
     let q : ltb (i * 0 % s) 0 ≡ false = le-ltb (i * 0 % s) 0 zero-le in
     ap (λ (t : Bool). elim t [ true ↦ note i ∷ hitsFrom 0 s note (suc i) n | false ↦ hitsFrom 0 s note (suc i) n ]) q ∙ none-hit s note n (suc i)
 
-pub even-hits : (p s : ℕ) → p ≤ s → (note : ℕ → Note) → row (λ k. note (wholeAbove (k * s) p)) 0 p ≡ hitsFrom p s note 0 s
-unfolding row
+pub even-hits : (p s : ℕ) → p ≤ s → (note : ℕ → Note) → entries (λ k. note (wholeAbove (k * s) p)) 0 p ≡ hitsFrom p s note 0 s
+unfolding entries
 even-hits zero s h note = sym (none-hit s note s 0)
 even-hits (suc p) s h note =
-    ap (row (λ k. note (wholeAbove (k * s) (suc p))) 0) (sym (sub-zero (suc p)))
+    ap (entries (λ k. note (wholeAbove (k * s) (suc p))) 0) (sym (sub-zero (suc p)))
     ∙ sym (from (suc p) s (omega arith) h note s 0 0 (omega arith) (record { least = omega (arith, zero-mul s, zero-mul (suc p)); most = omega (arith, zero-mul s, zero-mul (suc p)) }))

@@ -5,4 +5,4 @@ pub use Rattle.rhythm.proofs.Remainders.{laps, remainder-below, remaind
 -- copies: how many notes they are, and that moving by no step changes nothing
 pub use Rattle.rhythm.proofs.Repeats.{count-copies, later-zero}
 -- rows of notes, and that the pulses one by one are the steps that euclidean's definition picks
-pub use Rattle.rhythm.proofs.Even.{length-row, even-hits}
+pub use Rattle.rhythm.proofs.Even.{even-hits}

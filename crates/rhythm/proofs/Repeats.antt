@@ -12,26 +12,26 @@ use Rattle.notes.proofs.Laws.{length-notes, length-words, words-append}
 use Rattle.rhythm.specs.Joins.{later, copiesFrom}
 use Rattle.rhythm.specs.Values.{mostStep}
 
--- an offset stopped at 2^32 - 1 moves a note as far
-pub capped-later : (x : ℕ) → later (min x mostStep) ≡ later x
-capped-later x = λ j. λ n. record { step = same (n .step) j; len = n .len; gain = n .gain; tag = n .tag }
+-- an offset stopped at 2^64 - 1 moves a note as far
+pub stopped-later : (x : ℕ) → later (min x (2 ^ 64 - 1)) ≡ later x
+stopped-later x = λ j. λ n. record { step = same (n .step) j; len = n .len; gain = n .gain; tag = n .tag }
   where
-    same : (s : ℕ) → min (s + min x mostStep) mostStep ≡ min (s + x) mostStep
+    same : (s : ℕ) → min (s + min x (2 ^ 64 - 1)) mostStep ≡ min (s + x) mostStep
     same s = omega arith
 
 -- one stride more, stopped
-pub capped-more : (i s off s′ : ℕ) → off ≡ min (i * s) mostStep → s′ ≡ min s mostStep → min (off + s′) mostStep ≡ min ((i + 1) * s) mostStep
-capped-more i s off s′ e f = let m : (i + 1) * s ≡ i * s + s = rw (add-one i) (suc-mul i s) in rw m (omega arith)
+pub stopped-more : (i s off : ℕ) → off ≡ min (i * s) (2 ^ 64 - 1) → min (off + s) (2 ^ 64 - 1) ≡ min ((i + 1) * s) (2 ^ 64 - 1)
+stopped-more i s off e = let m : (i + 1) * s ≡ i * s + s = rw (add-one i) (suc-mul i s) in rw m (omega arith)
 
 -- what is written in the turn at i, and what is left
-pub copies-turn : (ws : List ℕ) (stride i t off : ℕ) → i < t → off ≡ min (i * stride) mostStep
+pub copies-turn : (ws : List ℕ) (stride i t off : ℕ) → i < t → off ≡ min (i * stride) (2 ^ 64 - 1)
     → wordsOf (copiesFrom stride (notesOf ws) i (t - i)) ≡ wordsOf (map (later off) (notesOf ws)) ++ wordsOf (copiesFrom stride (notesOf ws) (i + 1) (t - (i + 1)))
 unfolding copiesFrom
 copies-turn ws stride i t off h e =
     let k : t - i ≡ suc (t - (i + 1)) = omega arith in
     rw (k, add-one)
     (words-append (map (later (i * stride)) (notesOf ws)) _
-    ∙ ap (λ (f : Note → Note). wordsOf (map f (notesOf ws)) ++ wordsOf (copiesFrom stride (notesOf ws) (suc i) (t - suc i))) (sym (ap later e ∙ capped-later (i * stride))))
+    ∙ ap (λ (f : Note → Note). wordsOf (map f (notesOf ws)) ++ wordsOf (copiesFrom stride (notesOf ws) (suc i) (t - suc i))) (sym (ap later e ∙ stopped-later (i * stride))))
 
 pub length-copy : (f : Note → Note) (ws : List ℕ) → length ws % 4 ≡ 0 → length (wordsOf (map f (notesOf ws))) ≡ length ws
 length-copy f ws h = length-words (map f (notesOf ws)) ∙ simp (length-map, length-notes) (omega arith)

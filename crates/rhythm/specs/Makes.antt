@@ -27,11 +27,6 @@ hitsFrom pulses steps note i (suc more) =
 
 -- ---- tuplet
 
--- so many notes: note k, note k + 1 and so on
-unfoldable pub row : (ℕ → Note) → ℕ → ℕ → List Note
-row note k zero = []
-row note k (suc more) = note k ∷ row note (suc k) more
-
 -- note k of `count` stands at the step nearest to k * steps / count, of two that are as near at the later
 abbrev pub tupletStep : ℕ → ℕ → ℕ → ℕ
 tupletStep count steps k = min (halfUp (k * steps) count) mostStep

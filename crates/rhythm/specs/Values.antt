@@ -1,4 +1,4 @@
--- Steps, lens, gains and bars, each as the calls change it. Steps and bars stop at 2^32 - 1.
+-- Steps, lens, gains and bars, each as the calls change it. Steps and bars stop at 2^32 - 1; only a rotated step keeps its low 32 bits.
 use mathlib.Core.Bool.{cond}
 use Prim.Native.Nat.{ℕ, _+_, _-_, _*_, _/_, _%_, _^_, min, max}
 use lib.Dec.{eqb}
@@ -22,7 +22,7 @@ barsFor steps stepsPerBar = max (min (wholeAbove steps (max stepsPerBar 1)) most
 abbrev pub laterStep : ℕ → ℕ → ℕ
 laterStep off step = min (step + off) mostStep
 
--- a step, a len or a number of bars, times num / den: for what stays on the grid this is exact
+-- a step, a len or a number of bars, times num / den: for what stays on the grid, and up to 2^32 - 1, this is exact
 abbrev pub stretchedBy : ℕ → ℕ → ℕ → ℕ
 stretchedBy num den value = min (value * num / den) mostStep
 

@@ -1,7 +1,6 @@
 // One list of notes behind another: the rest of the output is lent from its middle to the copier.
 use crate::changing;
 use crate::changing::Change;
-use crate::steps;
 ghost use mathlib.Core.Path.{_≡_};
 ghost use mathlib.Core.List.{_++_};
 ghost use Prim.Native.Nat.{_+_, _*_, _%_, _≤_};
@@ -29,14 +28,13 @@ pub fn copies(words: &[u32], stride: u64, times: u32, out: &mut [u32])
     if n == 0 {
         return;
     }
-    let next = steps::capped(stride);
     let mut i: u32 = 0;
     let mut at = 0;
     let mut off: u64 = 0;
     while i < times {
         changing::copy(words, Change::Later(off), &mut out[at..]);
         at += n;
-        off = steps::capped(off + next);
+        off = numbers::saturating_add(off, stride);
         i += 1;
     }
 }

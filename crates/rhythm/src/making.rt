@@ -7,7 +7,8 @@ ghost use mathlib.Core.List.{_++_};
 ghost use Prim.Native.Nat.{_*_, _≤_, _<_};
 ghost use lib.ListN.{length, drop};
 ghost use Rattle.notes.specs.Notes.{wordsOf};
-ghost use Rattle.rhythm.specs.Makes.{Held, Within, placeOf, row, hitAt};
+ghost use Rattle.numbers.specs.Lists.{entries};
+ghost use Rattle.rhythm.specs.Makes.{Held, Within, placeOf, hitAt};
 
 // How notes are spread over the steps.
 pub enum Spread {
@@ -52,7 +53,7 @@ fn place(k: u32, how: Spread) -> u32
 // Writes `count` notes at full gain to the front of out.
 pub fn fill(how: Spread, count: u32, len: u32, tag: u32, out: &mut [u32])
     requires { ⌜ Held how count × (4 * count ≤ length (now out)) ⌝ }
-    ensures { λ _. ⌜ now (out .exit) ≡ wordsOf (row (hitAt how len tag) 0 count) ++ drop (4 * count) (now (out .entry)) ⌝ }
+    ensures { λ _. ⌜ now (out .exit) ≡ wordsOf (entries (hitAt how len tag) 0 count) ++ drop (4 * count) (now (out .entry)) ⌝ }
 {
     let long = numbers::larger(len, 1);
     let mut k: u32 = 0;

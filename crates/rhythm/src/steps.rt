@@ -35,21 +35,10 @@ pub fn bars_for(steps: u32, steps_per_bar: u32) -> u32
     numbers::larger(numbers::to_u32(bars), 1)
 }
 
-// A number of steps, or 2^32 - 1 where that is less: no step goes beyond it.
-pub fn capped(steps: u64) -> u64
-    ensures { λ r. ⌜ r ≡ min steps mostStep ⌝ }
-{
-    if steps > 0xffff_ffff {
-        0xffff_ffff
-    } else {
-        steps
-    }
-}
-
 pub fn later(step: u32, off: u64) -> u32
     ensures { λ r. ⌜ r ≡ laterStep off step ⌝ }
 {
-    numbers::to_u32(step as u64 + capped(off))
+    numbers::to_u32(numbers::saturating_add(step as u64, off))
 }
 
 // A step, a len or a number of bars, scaled by num / den.

@@ -8,8 +8,7 @@ ghost use mathlib.Core.Path.{_≡_};
 ghost use Prim.Native.Nat.{_+_, _*_, _≤_};
 ghost use lib.ListN.{length};
 ghost use Rattle.meter.specs.Meters.{pointsOf};
-ghost use Rattle.tempo.specs.Tempos.{tempoPoints};
-ghost use Rattle.timeline.specs.Places.{Parallel};
+ghost use Rattle.tempo.specs.Tempos.{Parallel, tempoPoints};
 ghost use Rattle.text.specs.Texts.{Puts};
 ghost use Rattle.sheet_text.specs.Sheets.{label, lineText, lineOf, linesOf, sheetOf};
 

@@ -9,7 +9,6 @@ ghost use lib.IntN.{pos};
 ghost use Prim.Native.Nat.{_^_};
 ghost use lib.Ieee as Ieee;
 ghost use lib.Ieee.{binary32};
-ghost use lib.ListN.{length};
 ghost use Rattle.spelling.specs.Words.{quotient, behindPoint, decimalTempo, bitsTempo, isBits, tempoOf};
 
 // 10^places, which a binary32 holds exactly up to 10^10.

@@ -7,7 +7,7 @@ use Prim.Native.Nat.{ℕ}
 use borrow.Author.Tests.{eq-eqb}
 use lib.Dec.{leb, eqb}
 use lib.ListN.{length}
-use Rattle.numbers.specs.Answers.{Answer, accepted, refused, number, given, isAccepted}
+use Rattle.numbers.specs.Answers.{Answer, accepted, refused, number, given, isAccepted, then}
 use Rattle.numbers.proofs.Laws.{never, and-left, and-right}
 use Rattle.transport.specs.declared.playhead.Run.{Run}
 use Rattle.transport.specs.declared.Transport.{Transport}
@@ -18,7 +18,7 @@ use Rattle.transport.specs.Promise.{Reaches}
 use Rattle.transport.proofs.Laws.{advance-fit}
 use Rattle.lines.specs.Lines.{ascends}
 use Rattle.cues.specs.Sounding.{cues, later}
-use Rattle.cues.specs.CueCall.{Said, inReach, roomFor, passing, movedBy, handedBy, cueAfter}
+use Rattle.cues.specs.CueCall.{Said, inReach, roomFor, movedBy, handedBy, cueAfter}
 use Rattle.cues.specs.Promise.{Block, said, pairsOf, answerTo, saidTo, next, cuesIn}
 use Rattle.cues.specs.Promise.{allAccepted, joinedCues, lastTransport, someWraps, someFinishes, framesIn}
 use Rattle.cues.proofs.Laws.{joining, by-blocks, accepted-fit, accepting}
@@ -38,8 +38,8 @@ module _ (t : Transport) (run : Run) (count : ℕ) where
   Zero test = eqb (number (handedBy t test (movedBy run count) .answer)) 0 ≡ isAccepted (handedBy t test (movedBy run count) .answer)
 
   tested : (fit short rising plays near room : Bool) → Zero
-      (cond fit (passing (cond short (cond rising (accepted tt) (refused 11 [])) (refused 4 []))
-      (cond plays (cond near (cond room (accepted tt) (refused 8 [])) (refused 10 [])) (accepted tt))) (refused 12 []))
+      (cond fit (then {A = Unit} (cond short (cond rising (accepted tt) (refused 11 [])) (refused 4 []))
+      (λ u. cond plays (cond near (cond room (accepted tt) (refused 8 [])) (refused 10 [])) (accepted tt))) (refused 12 []))
   tested false short rising plays near room = refl
   tested true false rising plays near room = refl
   tested true true false plays near room = refl

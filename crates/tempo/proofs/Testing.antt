@@ -2,7 +2,7 @@
 use mathlib.Core.Path.{_≡_, refl, _∙_}
 use mathlib.Core.Bool.{Bool, true, false, _&&_, cond}
 use mathlib.Core.List.{List}
-use Prim.Native.Nat.{ℕ, _≤_}
+use Prim.Native.Nat.{ℕ}
 use native.Mathlib.Omega.{arith}
 use lib.Dec.{eqb, leb}
 use lib.IntN.{ℤ}
@@ -28,7 +28,7 @@ walkable nums dens tempos e = go (eqb (length dens) (length nums)) (eqb (length 
   where
     go : (a b c d : Bool) → eqb (length dens) (length nums) ≡ a → eqb (length tempos) (length nums) ≡ b → leb (length nums) 65536 ≡ c → allBeats nums dens ≡ d
         → cond (a && b) (cond c (cond d Fine NotBeat) TooLong) Uneven ≡ Fine → Walkable nums dens tempos
-    go true true true true p q r s e = record { even-dens = eqb-true _ _ p; even-tempos = eqb-true _ _ q; short = leb-true _ _ r; beats = s }
+    go true true true true p q r s e = record { even = record { even-dens = eqb-true _ _ p; even-tempos = eqb-true _ _ q }; short = leb-true _ _ r; beats = s }
     go true true true false p q r s e = let z : _≡_ {A = ℕ} 0 1 = cc in absurd (omega arith)
     go true true false d p q r s e = let z : _≡_ {A = ℕ} 0 1 = cc in absurd (omega arith)
     go true false c d p q r s e = let z : _≡_ {A = ℕ} 0 1 = cc in absurd (omega arith)

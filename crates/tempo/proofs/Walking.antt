@@ -12,7 +12,7 @@ use lib.Seq.{drop-cons}
 use Rattle.rounding.specs.Floats.{float0}
 use Rattle.beats.specs.Beats.{isBeat}
 use Rattle.beats.specs.Frames.{beatFloat}
-use Rattle.tempo.specs.Tempos.{TempoPoint, tempoOf, tempoPoints, elapsed, walk, wholeWalk}
+use Rattle.tempo.specs.Tempos.{TempoPoint, Parallel, tempoOf, tempoPoints, elapsed, walk, wholeWalk}
 use Rattle.tempo.specs.Answers.{allBeats}
 
 -- ---- the test of the beats, with those from index i on left
@@ -48,14 +48,14 @@ unfolding tempoPoints
 no-points [] dens tempos e = refl
 no-points (num ∷ nums) dens tempos e = absurd (omega arith)
 
-module _ (nums : List ℤ) (dens tempos : List ℕ) (evenDens : length dens ≡ length nums) (evenTempos : length tempos ≡ length nums) where
+module _ (nums : List ℤ) (dens tempos : List ℕ) (even : Parallel nums dens tempos) where
   -- with one at index i, its point stands there
   pub points-step : (i : ℕ) → i < length nums
       → pointsFrom nums dens tempos i ≡ record { at = beatFloat (getD nums i (pos 0)) (getD dens i 0); tempo = tempoOf (getD tempos i 0) } ∷ pointsFrom nums dens tempos (i + 1)
   unfolding tempoPoints
   points-step i h =
-      let k : i < length dens = omega arith in
-      let l : i < length tempos = omega arith in
+      let k : i < length dens = omega (arith, even) in
+      let l : i < length tempos = omega (arith, even) in
       rw (add-one, drop-cons nums i (pos 0), drop-cons dens i 0, drop-cons tempos i 0)
 
   module _ (stop : Float → Float → Bool) (final : Float → Float → Float → Float) where

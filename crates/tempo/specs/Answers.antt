@@ -11,7 +11,7 @@ use Rattle.numbers.specs.Answers.{Answer, accepted, refused}
 use Rattle.beats.specs.Beats.{isBeat}
 use Rattle.tempo.specs.declared.MapTest.{MapTest}
 use Rattle.tempo.specs.declared.MapTest.the-variants.{Fine, Uneven, TooLong, NotBeat}
-use Rattle.tempo.specs.Tempos.{tempoPoints, secondsAtBeat, tempoAtBeat, beatAtSeconds}
+use Rattle.tempo.specs.Tempos.{Parallel, tempoPoints, secondsAtBeat, tempoAtBeat, beatAtSeconds}
 
 -- each numerator with its denominator is a beat
 unfoldable pub allBeats : List ℤ → List ℕ → Bool
@@ -28,8 +28,7 @@ mapTest nums dens tempos =
 
 -- a map that can be walked: none of the three applies
 pub record Walkable (nums : List ℤ) (dens tempos : List ℕ) : Type 0 where
-  pub even-dens : length dens ≡ length nums
-  pub even-tempos : length tempos ≡ length nums
+  pub even : Parallel nums dens tempos
   pub short : length nums ≤ 65536
   pub beats : allBeats nums dens ≡ true
 

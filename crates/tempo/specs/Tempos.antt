@@ -1,8 +1,10 @@
 -- The walks over a tempo map: binary64 operations, each rounded once, in the order of document 01.
 use Prim.Native.Nat.{ℕ}
+use mathlib.Core.Path.{_≡_}
 use mathlib.Core.Bool.{Bool, cond}
 use mathlib.Core.List.{List, [], _∷_}
 use lib.IntN.{ℤ}
+use lib.ListN.{length}
 use lib.Ieee.{Float, binary32, binary64, ofBits, add, sub, mul, div, le, lt}
 use Rattle.rounding.specs.Floats.{maximum, float0, float1}
 use Rattle.beats.specs.Frames.{float60, beatFloat, secondsAt}
@@ -13,6 +15,11 @@ use Rattle.beats.specs.Frames.{float60, beatFloat, secondsAt}
 pub record TempoPoint : Type 0 where
   pub at : Float
   pub tempo : Float
+
+-- three lists of one length
+pub record Parallel (nums : List ℤ) (dens tempos : List ℕ) : Type 0 where
+  pub even-dens : length dens ≡ length nums
+  pub even-tempos : length tempos ≡ length nums
 
 -- the tempo of given bits, in beats a minute, and 1 where it is below 1 or a NaN
 abbrev pub tempoOf : ℕ → Float
@@ -51,9 +58,15 @@ module _ (stop : Float → Float → Bool) (final : Float → Float → Float �
   wholeWalk [] = float0
   wholeWalk (first ∷ rest) = walk rest float0 float0 (first .tempo)
 
--- stops at beat <= point
+-- to a beat: stops at beat <= point, and answers the seconds there
+abbrev pub reaches : Float → Float → Float → Bool
+reaches beat at there = le beat at
+
+abbrev pub secondsTo : Float → Float → Float → Float → Float
+secondsTo beat secs from tempo = elapsed secs from beat tempo
+
 abbrev pub secondsAtBeat : List TempoPoint → Float → Float
-secondsAtBeat points beat = wholeWalk (λ at there. le beat at) (λ secs from tempo. elapsed secs from beat tempo) points
+secondsAtBeat points beat = wholeWalk (reaches beat) (secondsTo beat) points
 
 -- stops at beat < point
 abbrev pub tempoAtBeat : List TempoPoint → Float → Float

@@ -4,7 +4,7 @@ use beats::frames;
 ghost use mathlib.Core.Path.{_≡_};
 ghost use Prim.Native.Nat.{_<_};
 ghost use lib.ListN.{length};
-ghost use Rattle.tempo.specs.Tempos.{tempoOf, tempoPoints, elapsed, beatAfter, secondsAtBeat, tempoAtBeat, beatAtSeconds};
+ghost use Rattle.tempo.specs.Tempos.{Parallel, tempoOf, tempoPoints, elapsed, beatAfter, secondsAtBeat, tempoAtBeat, beatAtSeconds};
 
 // The tempo whose bits are given, and 1 where it is below 1 or a NaN.
 pub fn tempo_of(bits: u32) -> f64
@@ -23,8 +23,7 @@ pub fn later(secs: f64, from: f64, to: f64, tempo: f64) -> f64
 // The seconds at a beat.
 pub fn seconds_at(nums: &[i64], dens: &[u32], tempos: &[u32], beat: f64) -> f64
     requires { ⌜ 0 < length (now nums) ⌝ }
-    requires { ⌜ length (now dens) ≡ length (now nums) ⌝ }
-    requires { ⌜ length (now tempos) ≡ length (now nums) ⌝ }
+    requires { ⌜ Parallel (now nums) (now dens) (now tempos) ⌝ }
     ensures { λ r. ⌜ r ≡ secondsAtBeat (tempoPoints (now (nums .entry)) (now (dens .entry)) (now (tempos .entry))) beat ⌝ }
 {
     let mut secs: f64 = 0.0;
@@ -50,8 +49,7 @@ pub fn seconds_at(nums: &[i64], dens: &[u32], tempos: &[u32], beat: f64) -> f64
 // The tempo in force at a beat.
 pub fn tempo_at(nums: &[i64], dens: &[u32], tempos: &[u32], beat: f64) -> f64
     requires { ⌜ 0 < length (now nums) ⌝ }
-    requires { ⌜ length (now dens) ≡ length (now nums) ⌝ }
-    requires { ⌜ length (now tempos) ≡ length (now nums) ⌝ }
+    requires { ⌜ Parallel (now nums) (now dens) (now tempos) ⌝ }
     ensures { λ r. ⌜ r ≡ tempoAtBeat (tempoPoints (now (nums .entry)) (now (dens .entry)) (now (tempos .entry))) beat ⌝ }
 {
     let mut tempo: f64 = tempo_of(tempos[0]);
@@ -80,8 +78,7 @@ fn beat_after(seconds: f64, secs: f64, from: f64, tempo: f64) -> f64
 // The beat at a second.
 pub fn beat_at(nums: &[i64], dens: &[u32], tempos: &[u32], seconds: f64) -> f64
     requires { ⌜ 0 < length (now nums) ⌝ }
-    requires { ⌜ length (now dens) ≡ length (now nums) ⌝ }
-    requires { ⌜ length (now tempos) ≡ length (now nums) ⌝ }
+    requires { ⌜ Parallel (now nums) (now dens) (now tempos) ⌝ }
     ensures { λ r. ⌜ r ≡ beatAtSeconds (tempoPoints (now (nums .entry)) (now (dens .entry)) (now (tempos .entry))) seconds ⌝ }
 {
     let mut secs: f64 = 0.0;

@@ -1,7 +1,6 @@
 // Texts put at a place of lent bytes, one behind another: each function answers the next place. The
 // caller has the room, from the lengths of its texts.
 use beats::Beat;
-ghost use mathlib.Core.Path.{_≡_};
 ghost use mathlib.Core.List.{[], _∷_};
 ghost use Prim.Native.Nat.{_+_, _≤_};
 ghost use lib.ListN.{length};

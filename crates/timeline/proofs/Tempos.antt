@@ -6,9 +6,9 @@ use lib.IntN.{ℤ}
 use lib.Ieee.{Float, binary64, mul, div}
 use lib.ListN.{length}
 use Rattle.beats.specs.Frames.{float60, secondsAt}
-use Rattle.tempo.specs.Tempos.{tempoPoints, secondsAtBeat, beatAtSeconds}
+use Rattle.tempo.specs.Tempos.{Parallel, tempoPoints, secondsAtBeat, beatAtSeconds}
 use Rattle.tempo.proofs.Laws.{no-points, points-step}
-use Rattle.timeline.specs.Places.{Parallel, ownTempo, secondsOf, beatsOf}
+use Rattle.timeline.specs.Places.{ownTempo, secondsOf, beatsOf}
 
 module _ (bpm : Float) (nums : List ℤ) (dens tempos : List ℕ) where
   -- no points: the transport's own tempo
@@ -25,8 +25,8 @@ module _ (bpm : Float) (nums : List ℤ) (dens tempos : List ℕ) where
   module _ (even : Parallel nums dens tempos) (some : 0 < length nums) where
     pub map-seconds : (beat : Float) → secondsAtBeat (tempoPoints nums dens tempos) beat ≡ secondsOf bpm (tempoPoints nums dens tempos) beat
     unfolding secondsOf
-    map-seconds beat = rw (points-step nums dens tempos (even .even-dens) (even .even-tempos) 0 some)
+    map-seconds beat = rw (points-step nums dens tempos even 0 some)
 
     pub map-beats : (seconds : Float) → beatAtSeconds (tempoPoints nums dens tempos) seconds ≡ beatsOf bpm (tempoPoints nums dens tempos) seconds
     unfolding beatsOf
-    map-beats seconds = rw (points-step nums dens tempos (even .even-dens) (even .even-tempos) 0 some)
+    map-beats seconds = rw (points-step nums dens tempos even 0 some)

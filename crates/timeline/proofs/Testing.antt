@@ -19,7 +19,7 @@ use Rattle.timeline.specs.declared.tests.Refusal.{Refusal}
 use Rattle.timeline.specs.declared.tests.Refusal.the-variants as R
 use Rattle.timeline.specs.declared.tests.Test.{Test}
 use Rattle.timeline.specs.declared.tests.Test.the-variants.{Sound as Passed, Refused}
-use Rattle.timeline.specs.Places.{Parallel}
+use Rattle.tempo.specs.Tempos.{Parallel}
 use Rattle.timeline.specs.Tests.{wordsTest, worse, mapsTest, ifTested, tested, testOf, reportOf}
 use Rattle.timeline.specs.Answers.{inReach}
 use Rattle.timeline.specs.Readings.{numberOf}
@@ -99,7 +99,7 @@ both-sound NotBeat NotBeat e = let z : _≡_ {A = ℕ} 0 1 = cc in absurd (omega
 -- the lists of a sound tempo map are parallel
 module _ (nums : List ℤ) (dens tempos : List ℕ) where
   pub parallel : mapTest nums dens tempos ≡ Fine → Parallel nums dens tempos
-  parallel e = let known = tempo.walkable nums dens tempos e in record { even-dens = known .even-dens; even-tempos = known .even-tempos }
+  parallel e = tempo.walkable nums dens tempos e .even
 
   module _ (t : Transport) where
     pub tempo-parallel : {test : Test} → test ≡ testOf t (mapTest nums dens tempos) → test ≡ Passed → Parallel nums dens tempos

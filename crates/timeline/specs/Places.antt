@@ -1,11 +1,9 @@
 -- Where beats and bars lie on a transport's frames: binary64 operations, each rounded once, in the order of document 01.
 use mathlib.Core.Bool.{cond}
-use mathlib.Core.Path.{_≡_}
 use mathlib.Core.List.{List, [], _∷_}
 use Prim.Native.Nat.{ℕ, max, _+_, _-_, _*_, _/_}
-use lib.IntN.{ℤ, pos}
+use lib.IntN.{pos}
 use lib.Ieee.{Float, binary64, ofBits, ofInt, toSigned, toUnsigned, add, sub, mul, div}
-use lib.ListN.{length}
 use Rattle.rounding.specs.Floats.{roundAway, floorOf, maximum, clamp, float0, float1}
 use Rattle.beats.specs.declared.Beat.{Beat}
 use Rattle.beats.specs.Beats.{newBeat, zeroBeat}
@@ -17,11 +15,6 @@ use Rattle.meter.specs.Starts.{startOf}
 use Rattle.meter.specs.Counts.{countAt}
 use Rattle.tempo.specs.Tempos.{TempoPoint, secondsAtBeat, beatAtSeconds}
 use Rattle.transport.specs.declared.Transport.{Transport}
-
--- three lists of one length
-pub record Parallel (nums : List ℤ) (dens tempos : List ℕ) : Type 0 where
-  pub even-dens : length dens ≡ length nums
-  pub even-tempos : length tempos ≡ length nums
 
 -- ---- seconds
 

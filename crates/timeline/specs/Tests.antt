@@ -1,11 +1,10 @@
 -- What is tested before a walk: 12 of the transport, then 3, 4 and 1 of the lists, each number for all lists before the next.
 use mathlib.Core.Bool.{cond}
 use mathlib.Core.List.{List}
-use Prim.Native.Nat.{ℕ, _*_, _%_}
-use lib.Dec.{leb, eqb}
+use Prim.Native.Nat.{ℕ}
 use lib.IntN.{ℤ}
-use lib.ListN.{length}
 use Rattle.numbers.specs.Answers.{Answer}
+use Rattle.meter.specs.Answers.{byWords}
 use Rattle.tempo.specs.declared.MapTest.{MapTest}
 use Rattle.tempo.specs.declared.MapTest.the-variants.{Fine, Uneven, TooLong, NotBeat}
 use Rattle.tempo.specs.Answers.{mapTest, ifWalkable}
@@ -21,7 +20,7 @@ use Rattle.timeline.specs.declared.tests.Test.the-variants.{Sound as Pas
 
 -- the flat words of a meter map: 3 where they are not three a point, 4 where there are over 65,536 points
 abbrev pub wordsTest : List ℕ → MapTest
-wordsTest words = cond (eqb (length words % 3) 0) (cond (leb (length words) (65536 * 3)) Fine TooLong) Uneven
+wordsTest words = byWords words Fine TooLong Uneven
 
 -- of two findings the one that comes first: 3, then 4, then 1
 abbrev pub worse : MapTest → MapTest → MapTest

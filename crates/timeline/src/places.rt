@@ -9,8 +9,8 @@ use tempo::walks;
 use transport::Transport;
 ghost use mathlib.Core.Path.{_≡_};
 ghost use Rattle.meter.specs.Meters.{pointsOf};
-ghost use Rattle.tempo.specs.Tempos.{tempoPoints};
-ghost use Rattle.timeline.specs.Places.{Parallel, ownTempo, secondsOf, beatsOf, frameAtBeat, beatAtFrame, frameAtBar, positionBeats, nextBeat, nearestBeat, currentBar, within, positionBars, gridBar, nextGridBar};
+ghost use Rattle.tempo.specs.Tempos.{Parallel, tempoPoints};
+ghost use Rattle.timeline.specs.Places.{ownTempo, secondsOf, beatsOf, frameAtBeat, beatAtFrame, frameAtBar, positionBeats, nextBeat, nearestBeat, currentBar, within, positionBars, gridBar, nextGridBar};
 
 // The transport's own tempo, and 1 where it is below 1 or a NaN.
 fn own_tempo(bpm: f32) -> f64

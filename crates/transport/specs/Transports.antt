@@ -1,13 +1,13 @@
 -- A transport as a value: when it is sound, and how it is made and changed.
-use mathlib.Core.Bool.{Bool, true, false, cond, _&&_}
-use mathlib.Core.List.{[]}
+use mathlib.Core.Bool.{Bool, true, false, _&&_}
 use Prim.Native.Nat.{ℕ, min, max, _-_, _^_}
 use lib.Dec.{leb, ltb}
 use lib.Ieee.{Float}
-use Rattle.numbers.specs.Answers.{Answer, accepted, refused}
+use Rattle.numbers.specs.Answers.{Answer, accepted}
 use Rattle.meter.specs.declared.Pickup.{Pickup}
 use Rattle.meter.specs.declared.Pickup.the-variants.{Absent}
 use Rattle.meter.specs.Meters.{soundPickup}
+use Rattle.meter.specs.Answers.{ifPickup}
 use Rattle.transport.specs.declared.PlayState.{PlayState}
 use Rattle.transport.specs.declared.PlayState.the-variants.{Stopped, Playing, Paused}
 use Rattle.transport.specs.declared.LoopRange.{LoopRange}
@@ -46,7 +46,7 @@ constantAt rate bpm beats = made rate bpm beats (2 ^ 64 - 1) Absent
 
 -- 1 where the pickup is no beat
 abbrev pub madeAnswer : ℕ → Float → ℕ → ℕ → Pickup → Answer Transport
-madeAnswer rate bpm beats length pickup = cond (soundPickup pickup) (accepted (made rate bpm beats length pickup)) (refused 1 [])
+madeAnswer rate bpm beats length pickup = ifPickup pickup (accepted (made rate bpm beats length pickup))
 
 -- ---- changing one
 

@@ -98,7 +98,7 @@ pub fn sought(t: Transport, frame: u64) -> Transport
     ensures { λ r. ⌜ r ≡ seekTo t frame ⌝ }
 {
     let state = t.state;
-    let position = if frame <= t.length { frame } else { t.length };
+    let position = numbers::smaller(frame, t.length);
     moved(t, position, state)
 }
 

@@ -1,7 +1,6 @@
 // The transport: a clock in frames that plays, pauses, loops and ends. It is one struct by value.
 // Each call that changes it hands back the new one, or with a refusal the old one; the calls that
 // go through the meter and tempo maps are in the crate `timeline`.
-use beats::Beat;
 use meter::Pickup;
 ghost use mathlib.Core.Path.{_≡_};
 ghost use Rattle.transport.specs.Transports.{sound, constantAt, madeAnswer, playing};

@@ -11,11 +11,11 @@ use Rattle.numbers.proofs.Signs.{flip-read, stopped-neg, read-pos}
 use Rattle.numbers.proofs.signed.Statement.{statement}
 use Rattle.numbers.proofs.signed.Tie as tie
 
-small : (c : tie.After-below-half) → c .below-half .result < 2 ^ 63
-small c = omega (arith, c .below-half .ensures)
+small : (c : tie.After-smaller) → c .smaller .result < 2 ^ 63
+small c = omega (arith, c .smaller .ensures)
 
 sub-result : tie.Need-sub-result
-sub-result c = rw (flip-read (c .below-half .result) (small c)) (record { sfits = small c })
+sub-result c = rw (flip-read (c .smaller .result) (small c)) (record { sfits = small c })
 
 returns : tie.Need-returns
 returns c = rw (c .before .if1 .taken, c .if2 .taken)
@@ -24,14 +24,14 @@ returns-2 : tie.Need-returns-2
 returns-2 c =
     let s = c .before .before .before .args in
     toZ-ofZ w64 _ (sub-result c)
-    ∙ flip-read (c .below-half .result) (small c)
-    ∙ stopped-neg (s .size) (c .below-half .result) (c .before .if2 .left) (c .below-half .ensures)
+    ∙ flip-read (c .smaller .result) (small c)
+    ∙ stopped-neg (s .size) (c .smaller .result) (c .before .if2 .left) (c .smaller .ensures)
     ∙ ap (λ (b : Bool). toI64 (withSign b (s .size))) (sym (c .before .before .if1 .taken))
 
 returns-3 : tie.Need-returns-3
 returns-3 c =
-    let k = c .below-half2 .result in
-    let e = c .below-half2 .ensures in
+    let k = c .smaller2 .result in
+    let e = c .smaller2 .ensures in
     rw (c .before .if1 .left) (read-pos k (omega (arith, e)) ∙ ap lib.IntN.pos e)
 
 pub signed-spec : {M : Type 1} → statement M

@@ -5,13 +5,14 @@ use Prim.Native.Nat.{ℕ, _*_}
 use native.Mathlib.Omega.{arith}
 use lib.ListN.{length, drop}
 use borrow.Author.Needs.{needs}
+use Rattle.numbers.specs.Lists.{entries}
+use Rattle.numbers.proofs.Laws.{entries-length}
 use Rattle.numbers.specs.Answers.{accepted}
 use Rattle.notes.specs.declared.Note.{Note}
 use Rattle.notes.specs.Notes.{wordsOf}
 use Rattle.rhythm.specs.declared.making.Spread.the-variants.{Pulses}
-use Rattle.rhythm.specs.Makes.{row, hitAt}
+use Rattle.rhythm.specs.Makes.{hitAt}
 use Rattle.rhythm.specs.Values.{barsFor}
-use Rattle.rhythm.proofs.Laws.{length-row}
 use Rattle.pattern.specs.declared.PatternAnswer.the-variants as P
 use Rattle.pattern.specs.Calls.{euclideanOf}
 use Rattle.pattern.specs.Phrases.{phrase}
@@ -21,10 +22,10 @@ use Rattle.pattern.proofs.euclidean.Tie as tie
 use Rattle.pattern.proofs.euclidean.Statement.{statement}
 
 abbrev all : tie.Start → List Note
-all c = row (hitAt (Pulses (c .args .pulses) (c .args .steps)) (c .args .len) (c .args .tag)) 0 (c .args .pulses)
+all c = entries (hitAt (Pulses (c .args .pulses) (c .args .steps)) (c .args .len) (c .args .tag)) 0 (c .args .pulses)
 
 count : (c : tie.Start) → length (all c) ≡ c .args .pulses
-count c = length-row _ 0 (c .args .pulses)
+count c = entries-length _ 0 (c .args .pulses)
 
 given : (m : tie.Else2) → (let a = m .before .before .before .args in
     euclideanOf (a .pulses) (a .steps) (a .tag) (a .len) (a .steps-per-bar) ≡ accepted (phrase (all (m .before .before .before)) (barsFor (a .steps) (a .steps-per-bar))))

@@ -5,20 +5,21 @@ use Prim.Native.Nat.{ℕ, _*_}
 use native.Mathlib.Omega.{arith}
 use lib.ListN.{length, drop}
 use borrow.Author.Needs.{needs}
+use Rattle.numbers.specs.Lists.{entries}
+use Rattle.numbers.proofs.Laws.{entries-length}
 use Rattle.notes.specs.declared.Note.{Note}
 use Rattle.notes.specs.Notes.{wordsOf}
 use Rattle.rhythm.specs.declared.making.Spread.the-variants.{Tuplet}
-use Rattle.rhythm.specs.Makes.{row, hitAt}
-use Rattle.rhythm.proofs.Laws.{length-row}
+use Rattle.rhythm.specs.Makes.{hitAt}
 use Rattle.pattern.proofs.Outcomes.{no-room, wrote}
 use Rattle.pattern.proofs.tuplet.Tie as tie
 use Rattle.pattern.proofs.tuplet.Statement.{statement}
 
 abbrev all : tie.Start → List Note
-all c = row (hitAt (Tuplet (c .args .count) (c .args .steps)) (c .args .len) (c .args .tag)) 0 (c .args .count)
+all c = entries (hitAt (Tuplet (c .args .count) (c .args .steps)) (c .args .len) (c .args .tag)) 0 (c .args .count)
 
 count : (c : tie.Start) → length (all c) ≡ c .args .count
-count c = length-row _ 0 (c .args .count)
+count c = entries-length _ 0 (c .args .count)
 
 returns : tie.Need-returns
 returns c =

@@ -11,7 +11,7 @@ use Rattle.tempo.proofs.tempo_map_bpm_at.Tie as tie
 tempo-at-requires : tie.Need-tempo-at-requires
 tempo-at-requires c κs =
     let known = walkable _ _ _ (sym (finding _ _ _ _ (c .before .before .before .test .ensures)) ∙ c .before .enum-told4 .given .1) in
-    (omega arith, (known .even-dens, known .even-tempos))
+    (omega arith, known .even)
 
 returns : tie.Need-returns
 returns c = rw (sym (finding _ _ _ _ (c .before .before .test .ensures)) ∙ c .enum-told .given .1)

@@ -11,7 +11,7 @@ use Rattle.tempo.proofs.tempo_map_seconds_at.Tie as tie
 seconds-at-requires : tie.Need-seconds-at-requires
 seconds-at-requires c κs =
     let known = walkable _ _ _ (sym (finding _ _ _ _ (c .before .before .before .test .ensures)) ∙ c .before .enum-told4 .given .1) in
-    (omega arith, (known .even-dens, known .even-tempos))
+    (omega arith, known .even)
 
 returns : tie.Need-returns
 returns c = rw (sym (finding _ _ _ _ (c .before .before .test .ensures)) ∙ c .enum-told .given .1)

@@ -4,13 +4,14 @@ use Prim.Native.Nat.{ℕ, _<_, _≤_}
 use borrow.Author.Tests.{lt-ltb, le-ltb}
 use lib.ListN.{getD}
 use borrow.Author.Needs.{needs}
+use Rattle.asking.proofs.Bounds.{too-long}
 use Rattle.asking.proofs.lists.past_longs.Statement.{statement}
 use Rattle.asking.proofs.lists.past_longs.Tie as tie
 
 returns : tie.Need-returns
 returns c =
     let s = c .before .before .before .args in
-    rw (lt-ltb (65537) (getD (s .q .now) (s .at) 0) (subst (λ (n : ℕ). 65537 < n) (c .before .u32-at .ensures) (c .if1 .taken)))
+    too-long _ _ (lt-ltb _ (getD (s .q .now) (s .at) 0) (subst (λ (n : ℕ). 65537 < n) (c .before .u32-at .ensures) (c .if1 .taken)))
 
 returns-2 : tie.Need-returns-2
 returns-2 c =

@@ -4,10 +4,10 @@ use Prim.Native.Nat.{_≤_, _-_}
 use native.Mathlib.Omega.{arith}
 use lib.ListN.{length}
 use borrow.Author.Needs.{needs}
+use Rattle.numbers.specs.Answers.{then}
 use Rattle.beats.specs.Readings.{readBeat}
 use Rattle.meter.specs.declared.MeterPoint.{MeterPoint}
 use Rattle.meter.specs.Meters.{pointsOf}
-use Rattle.meter.specs.Starts.{then}
 use Rattle.meter.specs.Fits.{lastBar}
 use Rattle.meter.proofs.Laws.{left}
 use Rattle.fits.specs.Decision.{reach, walked}

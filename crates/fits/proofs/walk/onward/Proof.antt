@@ -1,9 +1,9 @@
 -- By the answer's cases.
 use mathlib.Core.Path.{sym, ap, _∙_}
 use borrow.Author.Needs.{needs}
+use Rattle.numbers.specs.Answers.{then}
 use Rattle.beats.specs.declared.BeatAnswer.{BeatAnswer}
 use Rattle.beats.specs.Readings.{readBeat}
-use Rattle.meter.specs.Starts.{then}
 use Rattle.fits.specs.Decision.{reach}
 use Rattle.fits.proofs.walk.onward.Statement.{statement}
 use Rattle.fits.proofs.walk.onward.Tie as tie

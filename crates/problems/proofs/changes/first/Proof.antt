@@ -1,5 +1,4 @@
 -- The record of the map, the one of its first beat and the one of its first tempo are passed one behind another.
-use mathlib.Core.Bool.{not}
 use mathlib.Core.List.{List, _++_}
 use borrow.Author.Needs.{needs}
 use Rattle.problems.specs.Problems.{Problem, tempoBits, manyTempos, laterBeat}

@@ -1,6 +1,5 @@
 -- The record of the tempo is passed, and then the one of the order.
 use borrow.Author.Needs.{needs}
-use mathlib.Core.Bool.{not}
 use Rattle.problems.specs.Problems.{tempoBits, notAbove}
 use Rattle.problems.specs.Passes.{listedAt, tempoLater}
 use Rattle.problems.proofs.Passing.{ready-first, ready-then, passed-then}

@@ -1,6 +1,5 @@
 -- At the first point the two records of the map are passed one behind the other, and elsewhere nothing is.
 use borrow.Author.Needs.{needs}
-use mathlib.Core.Bool.{not}
 use Rattle.problems.specs.Problems.{manyMeters, laterBar}
 use Rattle.problems.proofs.Passing.{ready-first, ready-then, passed-then, passed-none}
 use Rattle.problems.proofs.Points.{head-first, head-later}

@@ -1,7 +1,7 @@
--- The copies so far are written, and those that are left stand behind them; the offset is stopped at 2^32 - 1, which moves a note as far.
+-- The copies so far are written, and those that are left stand behind them; the offset is stopped at 2^64 - 1, which moves a note as far.
 use mathlib.Core.List.{List, [], _∷_, _++_, map}
 use mathlib.Core.Path.{_≡_, sym, ap, _∙_}
-use Prim.Native.Nat.{ℕ, _+_, _-_, _*_, _≤_, min}
+use Prim.Native.Nat.{ℕ, _+_, _-_, _*_, _^_, _≤_, min}
 use native.Mathlib.Nat.{mul-suc, mul-zero, zero-mul}
 use native.Mathlib.Numerals.{add-one}
 use native.Mathlib.Omega.{arith}
@@ -12,23 +12,22 @@ use Rattle.notes.specs.declared.Note.{Note}
 use Rattle.notes.specs.Notes.{notesOf, wordsOf}
 use Rattle.notes.proofs.Laws.{Writing, begin-by, more-part, finish}
 use Rattle.rhythm.specs.Joins.{later, copiesFrom}
-use Rattle.rhythm.specs.Values.{mostStep}
-use Rattle.rhythm.proofs.Repeats.{capped-more, copies-turn, copies-all, copies-none, copies-of-none, length-copy}
+use Rattle.rhythm.proofs.Repeats.{stopped-more, copies-turn, copies-all, copies-none, copies-of-none, length-copy}
 use Rattle.rhythm.proofs.joining.copies.Tie as tie
 use Rattle.rhythm.proofs.joining.copies.Statement.{statement}
 
 abbrev Inv-loop : tie.InvT-loop
-Inv-loop words stride times out₀ n next i₀ at₀ off₀ out i at off =
-    (i ≤ times) × (at ≡ length words * i) × (off ≡ min (i * stride) mostStep)
+Inv-loop words stride times out₀ n i₀ at₀ off₀ out i at off =
+    (i ≤ times) × (at ≡ length words * i) × (off ≡ min (i * stride) (2 ^ 64 - 1))
     × Writing out₀ out at (wordsOf (copiesFrom stride (notesOf words) i (times - i))) (wordsOf (copiesFrom stride (notesOf words) 0 times))
 
 abbrev μ-loop : tie.MeasureT-loop
-μ-loop words stride times out₀ n next i₀ at₀ off₀ out i at off = times - i
+μ-loop words stride times out₀ n i₀ at₀ off₀ out i at off = times - i
 
 -- the turn's copy has room
-room : (c : tie.In-loop Inv-loop μ-loop) → c .before .loop .at + length (c .before .before .before .before .before .before .args .words .now) ≤ length (c .before .loop .out)
+room : (c : tie.In-loop Inv-loop μ-loop) → c .before .loop .at + length (c .before .before .before .before .before .args .words .now) ≤ length (c .before .loop .out)
 room c =
-    let s = c .before .before .before .before .before .before in
+    let s = c .before .before .before .before .before in
     omega (arith, one-more (length (s .args .words .now)) (c .before .loop .i) (s .args .times) (c .loop-test .taken), s .pre)
 
 -- no notes, no copies
@@ -46,7 +45,7 @@ returns c =
 
 loop-holds : tie.Need-loop-holds Inv-loop μ-loop
 loop-holds c =
-    let s = c .before .before .before .before .args in
+    let s = c .before .before .before .args in
     let z = zero-mul (s .stride) in
     (omega arith, sym (mul-zero (length (s .words .now))), omega (arith, z), begin-by (s .out .now) (copies-all (s .words .now) (s .stride) (s .times)))
 
@@ -61,7 +60,7 @@ part-copy-start c = omega (arith, room c)
 
 copy-requires : tie.Need-copy-requires Inv-loop μ-loop
 copy-requires c κs =
-    let s = c .before .before .before .before .before .before .before in
+    let s = c .before .before .before .before .before .before in
     (tt, s .pre .0, omega (arith, room (c .before)))
 
 add-at : tie.Need-add-at Inv-loop μ-loop
@@ -72,12 +71,12 @@ loop-again c =
     let p = c .before .before .before in
     let t = p .before .before in
     let l = t .before in
-    let s = l .before .before .before .before .before in
+    let s = l .before .before .before .before in
     let ws = s .args .words .now in
     let i = l .loop .i in (
       omega arith,
       (let m = mul-suc (length ws) i in rw (add-one i) (omega (arith, m))),
-      c .capped2 .ensures ∙ capped-more i (s .args .stride) (l .loop .off) _ (l .loop .inv .2) (l .before .capped .ensures),
+      c .saturating-add .ensures ∙ stopped-more i (s .args .stride) (l .loop .off) (l .loop .inv .2),
       more-part (wordsOf (map (later (l .loop .off)) (notesOf ws))) (length ws) (length-copy (later (l .loop .off)) ws (s .pre .0)) (room t)
           (copies-turn ws (s .args .stride) i (s .args .times) (l .loop .off) (t .loop-test .taken) (l .loop .inv .2)) (p .copy .ensures) (l .loop .inv .3),
     )
@@ -85,7 +84,7 @@ loop-again c =
 returns-2 : tie.Need-returns-2 Inv-loop μ-loop
 returns-2 c =
     let l = c .before in
-    let s = l .before .before .before .before .before .args in
+    let s = l .before .before .before .before .args in
     let ws = s .words .now in
     let e : l .loop .i ≡ s .times = omega arith in
     finish _ _ _ _ _ (copies-none ws (s .stride) (l .loop .i) (s .times) (c .loop-test .left)) (l .loop .inv .3)
@@ -94,5 +93,5 @@ returns-2 c =
 pub copies-spec : {M : Type 1} → statement M
 copies-spec =
     tie.close
-    (tie.spec Inv-loop μ-loop returns (λ c κs. search needs) loop-holds mul-copy sub-copy part-copy-start (λ c. search needs) copy-requires add-at (λ c. search needs)
+    (tie.spec Inv-loop μ-loop returns loop-holds mul-copy sub-copy part-copy-start (λ c. search needs) copy-requires add-at
     (λ c κs. search needs) (λ c. search needs) (λ c. search needs) loop-again (λ c. search needs) returns-2)

@@ -6,17 +6,18 @@ use native.Mathlib.Nat.{sub-zero}
 use native.Mathlib.Omega.{arith}
 use lib.ListN.{drop}
 use borrow.Author.Needs.{needs}
+use Rattle.numbers.specs.Lists.{entries}
 use Rattle.notes.specs.declared.Note.{Note}
 use Rattle.notes.specs.Notes.{wordsOf}
 use Rattle.notes.proofs.Laws.{Writing, begin-by, more-note, finish}
-use Rattle.rhythm.specs.Makes.{row, hitAt}
+use Rattle.rhythm.specs.Makes.{hitAt}
 use Rattle.rhythm.proofs.Even.{row-turn, row-end, held-within}
 use Rattle.rhythm.proofs.making.fill.Tie as tie
 use Rattle.rhythm.proofs.making.fill.Statement.{statement}
 
 abbrev Inv-loop : tie.InvT-loop
 Inv-loop how count len tag out₀ long k₀ o₀ out k o =
-    (k ≤ count) × (o ≡ 4 * k) × Writing out₀ out o (wordsOf (row (hitAt how len tag) k (count - k))) (wordsOf (row (hitAt how len tag) 0 count))
+    (k ≤ count) × (o ≡ 4 * k) × Writing out₀ out o (wordsOf (entries (hitAt how len tag) k (count - k))) (wordsOf (entries (hitAt how len tag) 0 count))
 
 abbrev μ-loop : tie.MeasureT-loop
 μ-loop how count len tag out₀ long k₀ o₀ out k o = count - k
@@ -48,7 +49,7 @@ returns c =
     let note = hitAt (s .how) (s .len) (s .tag) in
     let e : l .loop .o ≡ 4 * s .count = omega arith in
     finish _ _ _ _ _ (row-end note (l .loop .k) (s .count) (c .loop-test .left)) (l .loop .inv .2)
-    ∙ ap (λ (k : ℕ). wordsOf (row note 0 (s .count)) ++ drop k (s .out .now)) e
+    ∙ ap (λ (k : ℕ). wordsOf (entries note 0 (s .count)) ++ drop k (s .out .now)) e
 
 pub fill-spec : {M : Type 1} → statement M
 fill-spec =

@@ -31,14 +31,14 @@ loop-holds : tie.Need-loop-holds Inv-loop μ-loop
 unfolding ofBits
 loop-holds c =
     let s = c .before .before .before .before in
-    begins (now (s .args .nums)) (now (s .args .dens)) (now (s .args .tempos)) (s .pre .1 .0) (s .pre .1 .1) (stop (s .args .seconds)) (final (s .args .seconds)) (s .pre .0) _ (c .tempo-of .ensures)
+    begins (now (s .args .nums)) (now (s .args .dens)) (now (s .args .tempos)) (s .pre .1) (stop (s .args .seconds)) (final (s .args .seconds)) (s .pre .0) _ (c .tempo-of .ensures)
 
 returns : tie.Need-returns Inv-loop μ-loop
 returns c =
     let s = c .before .before .before .before .before .before .before .before .before .before .before .before in
     let l = c .before .before .before .before .before .before .before .loop in
     c .beat-after .ensures
-    ∙ stops (now (s .args .nums)) (now (s .args .dens)) (now (s .args .tempos)) (s .pre .1 .0) (s .pre .1 .1) (stop (s .args .seconds)) (final (s .args .seconds)) (l .i)
+    ∙ stops (now (s .args .nums)) (now (s .args .dens)) (now (s .args .tempos)) (s .pre .1) (stop (s .args .seconds)) (final (s .args .seconds)) (l .i)
     (l .secs) (l .from) (l .tempo) _ (l .inv) (c .before .before .before .before .before .before .loop-test .taken) _
     (toZ-ofZ w64 (getD (now (s .args .nums)) (l .i) (pos 0)) (record { sfits = c .before .before .before .before .before .t16 .given })) _
     (c .before .before .before .float-of .ensures) (rw (c .before .before .later .ensures) at (c .before .if1 .taken))
@@ -49,7 +49,7 @@ loop-again c =
     let l = c .before .before .before .before .before .before .before .before .loop in
     let there = c .before .before .before .later .ensures in
     rw there
-    (goes (now (s .args .nums)) (now (s .args .dens)) (now (s .args .tempos)) (s .pre .1 .0) (s .pre .1 .1) (stop (s .args .seconds)) (final (s .args .seconds)) (l .i)
+    (goes (now (s .args .nums)) (now (s .args .dens)) (now (s .args .tempos)) (s .pre .1) (stop (s .args .seconds)) (final (s .args .seconds)) (l .i)
     (l .secs) (l .from) (l .tempo) _ (l .inv) (c .before .before .before .before .before .before .before .loop-test .taken) _
     (toZ-ofZ w64 (getD (now (s .args .nums)) (l .i) (pos 0)) (record { sfits = c .before .before .before .before .before .before .t16 .given })) _
     (c .before .before .before .before .float-of .ensures) _ (c .tempo-of2 .ensures) (rw there at (c .before .before .if1 .left)))
@@ -58,7 +58,7 @@ returns-2 : tie.Need-returns-2 Inv-loop μ-loop
 returns-2 c =
     let s = c .before .before .before .before .before .before .before in
     let l = c .before .before .loop in
-    c .beat-after2 .ensures ∙ ends (now (s .args .nums)) (now (s .args .dens)) (now (s .args .tempos)) (s .pre .1 .0) (s .pre .1 .1) (stop (s .args .seconds)) (final (s .args .seconds)) (l .i) (l .secs) (l .from) (l .tempo) _ (l .inv) (c .before .loop-test .left)
+    c .beat-after2 .ensures ∙ ends (now (s .args .nums)) (now (s .args .dens)) (now (s .args .tempos)) (s .pre .1) (stop (s .args .seconds)) (final (s .args .seconds)) (l .i) (l .secs) (l .from) (l .tempo) _ (l .inv) (c .before .loop-test .left)
 
 pub beat-at-spec : {M : Type 1} → statement M
 beat-at-spec =

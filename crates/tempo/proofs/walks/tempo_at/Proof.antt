@@ -31,14 +31,14 @@ abbrev μ-loop : tie.MeasureT-loop
 loop-holds : tie.Need-loop-holds Inv-loop μ-loop
 loop-holds c =
     let s = c .before .before .before .before in
-    (float0, float0, begins (now (s .args .nums)) (now (s .args .dens)) (now (s .args .tempos)) (s .pre .1 .0) (s .pre .1 .1) (stop (s .args .beat)) (final (s .args .beat)) (s .pre .0) _ (c .tempo-of .ensures))
+    (float0, float0, begins (now (s .args .nums)) (now (s .args .dens)) (now (s .args .tempos)) (s .pre .1) (stop (s .args .beat)) (final (s .args .beat)) (s .pre .0) _ (c .tempo-of .ensures))
 
 returns : tie.Need-returns Inv-loop μ-loop
 returns c =
     let s = c .before .before .before .before .before .before .before .before .before .before in
     let l = c .before .before .before .before .before .loop in
     let v = l .inv in
-    stops (now (s .args .nums)) (now (s .args .dens)) (now (s .args .tempos)) (s .pre .1 .0) (s .pre .1 .1) (stop (s .args .beat)) (final (s .args .beat)) (l .i) (v .0)
+    stops (now (s .args .nums)) (now (s .args .dens)) (now (s .args .tempos)) (s .pre .1) (stop (s .args .beat)) (final (s .args .beat)) (l .i) (v .0)
     (v .1) (l .tempo) _ (v .2) (c .before .before .before .before .loop-test .taken) _
     (toZ-ofZ w64 (getD (now (s .args .nums)) (l .i) (pos 0)) (record { sfits = c .before .before .before .t13 .given })) _ (c .before .float-of .ensures) (c .if1 .taken)
 
@@ -50,7 +50,7 @@ loop-again c =
     let at = c .before .before .before .float-of .result in (
       elapsed (v .0) (v .1) at (l .tempo),
       at,
-      goes (now (s .args .nums)) (now (s .args .dens)) (now (s .args .tempos)) (s .pre .1 .0) (s .pre .1 .1) (stop (s .args .beat)) (final (s .args .beat)) (l .i) (v .0) (v .1)
+      goes (now (s .args .nums)) (now (s .args .dens)) (now (s .args .tempos)) (s .pre .1) (stop (s .args .beat)) (final (s .args .beat)) (l .i) (v .0) (v .1)
           (l .tempo) _ (v .2) (c .before .before .before .before .before .before .loop-test .taken) _
           (toZ-ofZ w64 (getD (now (s .args .nums)) (l .i) (pos 0)) (record { sfits = c .before .before .before .before .before .t13 .given })) _
           (c .before .before .before .float-of .ensures) _ (c .tempo-of2 .ensures) (c .before .before .if1 .left),
@@ -61,7 +61,7 @@ returns-2 c =
     let s = c .before .before .before .before .before .before in
     let l = c .before .loop in
     let v = l .inv in
-    ends (now (s .args .nums)) (now (s .args .dens)) (now (s .args .tempos)) (s .pre .1 .0) (s .pre .1 .1) (stop (s .args .beat)) (final (s .args .beat)) (l .i) (v .0) (v .1) (l .tempo) _ (v .2) (c .loop-test .left)
+    ends (now (s .args .nums)) (now (s .args .dens)) (now (s .args .tempos)) (s .pre .1) (stop (s .args .beat)) (final (s .args .beat)) (l .i) (v .0) (v .1) (l .tempo) _ (v .2) (c .loop-test .left)
 
 pub tempo-at-spec : {M : Type 1} → statement M
 tempo-at-spec =
