@@ -1,5 +1,7 @@
 // Exact beats, and the one place where they become frames or steps. These are the calls with their
 // refusals; crates above, which have tested their beats, call `sums` and `frames`.
+#![tactic(auto)]
+
 ghost use Rattle.std.specs.Prelude.{◌≡◌, max, ◌&&◌};
 ghost use Rattle.beats.specs.Beats.{new_beat, is_beat, whole_beat, zero_beat};
 ghost use Rattle.beats.specs.Sums.{add_answer, sub_answer, mul_answer, order_answer};
@@ -13,14 +15,14 @@ pub mod frames;
 pub mod sums;
 
 // A number of beats, num / den.
-#[derive(Drop)]
+#[derive(Clone, Copy)]
 pub struct Beat {
     pub num: i64,
     pub den: u32,
 }
 
 // A beat, or what refuses it: NotBeat 1, Overflow 2.
-#[derive(Drop)]
+#[derive(Clone, Copy)]
 pub enum BeatAnswer {
     Done(Beat),
     NotBeat,
@@ -28,28 +30,28 @@ pub enum BeatAnswer {
 }
 
 // An order, or NotBeat: 1.
-#[derive(Drop)]
+#[derive(Clone, Copy)]
 pub enum OrderAnswer {
     Stands(Order),
     NotBeat,
 }
 
 // A float, or NotBeat: 1.
-#[derive(Drop)]
+#[derive(Clone, Copy)]
 pub enum FloatAnswer {
     Value(f64),
     NotBeat,
 }
 
 // A frame, or NotBeat: 1.
-#[derive(Drop)]
+#[derive(Clone, Copy)]
 pub enum FrameAnswer {
     Frame(u64),
     NotBeat,
 }
 
 // A step, or what refuses it: NotBeat 1, OffGrid 7.
-#[derive(Drop)]
+#[derive(Clone, Copy)]
 pub enum StepAnswer {
     Step(u32),
     NotBeat,

@@ -1,5 +1,7 @@
 // The lines of a range, copied: for a caller that may hold no struct with a reference in it, as
 // `lines::lines_between` answers.
+#![tactic(auto)]
+
 ghost use Rattle.std.specs.Prelude.{◌≡◌, ◌≤◌, length};
 ghost use Rattle.numbers.specs.Answers.{over};
 ghost use Rattle.lines.specs.Readings.{read_lines};
@@ -8,7 +10,7 @@ ghost use Rattle.between.specs.Readings.{read_copy};
 
 use lines::LinesReport;
 
-#[derive(Drop)]
+#[derive(Clone, Copy)]
 pub enum CopyAnswer {
     Copied(usize),
     TooLong,

@@ -1,6 +1,8 @@
 // A clock's words: a transport as eleven words of 64 bits, for firmware that keeps one in its own
 // memory. They are read whole. An advance changes position and state alone, and these alone are
 // written.
+#![tactic(auto)]
+
 ghost use Rattle.std.specs.Prelude.{◌≡◌};
 ghost use Rattle.transport.specs.Words.{state_of, loop_of};
 ghost use Rattle.clock_words.specs.Clocks.{clock_words, pickup_of, unfit, clock_of, state_word, placed};

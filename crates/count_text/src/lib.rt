@@ -1,6 +1,8 @@
 // The drummer's question: how many bars the music up to a beat takes, and whether they go into the
 // display's row of twenty squares. From the bytes of a score file and of a beat's text to the bytes
 // printed.
+#![tactic(auto)]
+
 ghost use Rattle.std.specs.Prelude.{◌≡◌, ◌≤◌, length, take};
 ghost use Rattle.text.specs.Texts.{Puts};
 ghost use Rattle.count_text.specs.Answers.{count_text};

@@ -48,6 +48,26 @@ pub record Found (lines : List ℕ) (p : Plan) (place again : ℕ) (first lap la
   pub lap_is : lap ≡ between p.start (p.start + p.lap) lines
   pub last_is : last ≡ between p.start (p.start + p.last) lines
 
+-- from what the calls ask and give
+pub found : (lines : List ℕ) (p : Plan) (place again : ℕ) (first lap last : List ℕ)
+    → (ascends lines ≡ true) × (length lines ≤ 65536) × Fitting p
+    → Splits p.from lines place
+    → first ≡ between p.from (p.from + p.first) lines
+    → Splits p.start lines again
+    → lap ≡ between p.start (p.start + p.lap) lines
+    → last ≡ between p.start (p.start + p.last) lines
+    → Found lines p place again first lap last
+found lines p place again first lap last asked place_at first_is again_at lap_is last_is = record {
+  up = asked.0;
+  few = asked.1;
+  fits = asked.2;
+  place_at = place_at;
+  again_at = again_at;
+  first_is = first_is;
+  lap_is = lap_is;
+  last_is = last_is;
+}
+
 -- a part, its place and its lines
 module _ (lines : List ℕ) (few : length lines ≤ 65536) (from frames place : ℕ) (s : Splits from lines place) (part : List ℕ) (e : part ≡ between from (from + frames) lines) where
   part_few : place + length part ≤ 131072

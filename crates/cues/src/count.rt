@@ -2,7 +2,7 @@
 ghost use Rattle.std.specs.Prelude.{◌≡◌, ◌+◌, ◌*◌, ◌≤◌};
 ghost use Rattle.cues.specs.Plans.{counted_to};
 
-#[derive(Drop)]
+#[derive(Clone, Copy)]
 pub enum Counted {
     Fits(usize),
     TooMany,

@@ -1,5 +1,7 @@
 // The cue call: the bar lines that sound in a run of frames, written as pairs of words, and the
 // transport moved by the run.
+#![tactic(auto)]
+
 ghost use Rattle.std.specs.Prelude.{◌≡◌};
 ghost use Rattle.cues.specs.CueCall.{cue_answer, cue_after};
 ghost use Rattle.cues.specs.Readings.{read_cues};
@@ -13,7 +15,7 @@ pub mod play;
 pub mod write;
 
 // What a cue call says.
-#[derive(Drop)]
+#[derive(Clone, Copy)]
 pub enum CueReport {
     // whether it wrapped, whether it finished, and the number of cues
     Cued(bool, bool, usize),
@@ -25,7 +27,7 @@ pub enum CueReport {
 }
 
 // The transport after the run; where the call refuses, as it was.
-#[derive(Drop)]
+#[derive(Clone, Copy)]
 pub struct CueAnswer {
     pub transport: Transport,
     pub report: CueReport,

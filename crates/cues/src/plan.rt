@@ -5,7 +5,7 @@ ghost use Rattle.cues.specs.Plans.{straight_plan, loop_plan, Plays, Planned};
 use transport::{LoopRange, Transport};
 
 // `first` frames from `from`; then `laps` times `lap` frames from `start`; then `last` frames from `start`.
-#[derive(Drop)]
+#[derive(Clone, Copy)]
 pub struct Plan {
     pub from: u64,
     pub first: u64,

@@ -1,5 +1,7 @@
 // The line filler: a whole lent list of bar lines, entry k the frame of bar k. Its cost is that of
 // the lines and of the maps: what a line needs of the maps is carried on to the next.
+#![tactic(auto)]
+
 ghost use Rattle.std.specs.Prelude.{◌≡◌};
 ghost use Rattle.timeline.specs.Tests.{test_of, worse, maps_test};
 ghost use Rattle.filler.specs.Fills.{lines_test, fill_answer, fill_after};
@@ -15,7 +17,7 @@ mod marks;
 mod segments;
 mod stands;
 
-#[derive(Drop)]
+#[derive(Clone, Copy)]
 pub enum FillAnswer {
     Filled,
     Refused(Refusal),

@@ -9,7 +9,7 @@ use beats::{Beat, sums};
 use meter::{MeterPoint, bars};
 use transport::Transport;
 
-#[derive(Drop)]
+#[derive(Clone, Copy)]
 pub struct Segment {
     pub first: u32,
     pub at: Beat,

@@ -13,7 +13,7 @@ use tempo::walks;
 use timeline::places;
 use transport::Transport;
 
-#[derive(Drop)]
+#[derive(Clone, Copy)]
 pub struct Stand {
     pub beat: f64,
     pub secs: f64,

@@ -8,7 +8,6 @@ use lib.Dec.{leb, eqb}
 use lib.ListN.{length}
 use Rattle.numbers.specs.Answers.{accepted, refused}
 use Rattle.meter.specs.Meters.{points_of, sound_pickup}
-use Rattle.meter.specs.Fits.{Fits}
 use Rattle.meter.proofs.Laws.{points_length, points_few, forward_sound, passed}
 use Rattle.fits.specs.declared.FitsAnswer.TheVariants as F
 use Rattle.fits.specs.Decision.{fits_bool}

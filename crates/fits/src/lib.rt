@@ -2,6 +2,8 @@
 // or scaling of the walk over its bars is refused up to bar 2^31. This is the call with its
 // refusals, 3, 4 and 1 in this order; crates above, which have tested their pickup, call
 // `deciding`.
+#![tactic(auto)]
+
 ghost use Rattle.std.specs.Prelude.{◌≡◌};
 ghost use Rattle.fits.specs.Answers.{fits_answer};
 ghost use Rattle.fits.specs.Readings.{read_fits};
@@ -13,7 +15,7 @@ mod sound;
 mod walk;
 
 // Whether it fits, or what refuses it: Uneven 3, TooLong 4, NotBeat 1.
-#[derive(Drop)]
+#[derive(Clone, Copy)]
 pub enum FitsAnswer {
     Fits,
     DoesNot,

@@ -7,13 +7,13 @@ use items::Reason;
 use meter::Pickup;
 
 // A number, where it was said.
-#[derive(Drop)]
+#[derive(Clone, Copy)]
 pub enum Said {
     Not,
     Number(u32),
 }
 
-#[derive(Drop)]
+#[derive(Clone, Copy)]
 pub struct Draft {
     pub rate: Said,
     pub beats: Said,
@@ -25,7 +25,7 @@ pub struct Draft {
     pub tempos: usize,
 }
 
-#[derive(Drop)]
+#[derive(Clone, Copy)]
 pub enum Step {
     Next(Draft),
     Wrong(Reason),

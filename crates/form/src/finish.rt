@@ -9,7 +9,7 @@ use items::Reason;
 use score::{LONGEST, Score};
 use score_writer::WriteAnswer;
 
-#[derive(Drop)]
+#[derive(Clone, Copy)]
 pub enum Finish {
     Whole(Score),
     Wrong(Reason),

@@ -9,7 +9,7 @@ use beats::Beat;
 use items::{Item, Reason};
 use splits::scan;
 
-#[derive(Drop)]
+#[derive(Clone, Copy)]
 pub enum Walk {
     // what all lines say, and how many there are
     Done(Draft, usize),

@@ -1,5 +1,7 @@
 // The text form of a score, read: from text to the score file that it says, or to the first line
 // that is wrong and why.
+#![tactic(auto)]
+
 ghost use Rattle.std.specs.Prelude.{◌≡◌};
 ghost use Rattle.form.specs.Forms.{form_answer, form_bytes, FileFits};
 
@@ -12,7 +14,7 @@ mod finish;
 mod fold;
 mod points;
 
-#[derive(Drop)]
+#[derive(Clone, Copy)]
 pub enum FormAnswer {
     // a score file of so many bytes, from the front of the output
     File(usize),

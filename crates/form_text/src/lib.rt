@@ -1,4 +1,6 @@
 // A score file as text, from the file's bytes to the bytes printed.
+#![tactic(auto)]
+
 ghost use Rattle.std.specs.Prelude.{◌≡◌, ◌≤◌, length, take};
 ghost use Rattle.text.specs.Texts.{Puts};
 ghost use Rattle.form_text.specs.Forms.{form_from, form_text};

@@ -1,5 +1,7 @@
 // An advance over a transport that stands in the caller's memory, for a caller that has it by
 // value: it is lent to `advance_in_place`, and handed back as that leaves it.
+#![tactic(auto)]
+
 ghost use Rattle.std.specs.Prelude.{◌≡◌};
 ghost use Rattle.transport.specs.Advances.{advance_answer};
 ghost use Rattle.transport.specs.Readings.{read_advanced};

@@ -1,4 +1,6 @@
 // What a line of the text form of a score says.
+#![tactic(auto)]
+
 ghost use Rattle.std.specs.Prelude.{◌≡◌};
 ghost use Rattle.splits.specs.Splits.{words, body};
 ghost use Rattle.items.specs.Items.{item_of};
@@ -10,7 +12,7 @@ mod keys;
 mod values;
 
 // What can be wrong with a text.
-#[derive(Drop)]
+#[derive(Clone, Copy)]
 pub enum Reason {
     // the first word of the line is none of the five keys
     Unknown,
@@ -39,7 +41,7 @@ pub enum Reason {
     Unwritten,
 }
 
-#[derive(Drop)]
+#[derive(Clone, Copy)]
 pub enum Item {
     Nothing,
     Rate(u32),

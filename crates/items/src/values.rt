@@ -8,13 +8,13 @@ use beats::Beat;
 use spelling::{BeatWord, NumberAnswer, TempoWord};
 
 // A number, or the bits of a tempo.
-#[derive(Drop)]
+#[derive(Clone, Copy)]
 pub enum Value {
     Number(u32),
     Wrong(Reason),
 }
 
-#[derive(Drop)]
+#[derive(Clone, Copy)]
 pub enum BeatValue {
     Beat(Beat),
     Wrong(Reason),

@@ -1,5 +1,7 @@
 // Bar lines: the frames that bars start at, lent by their owner. They are tested, and the lines of a
 // range are handed back as a part of the owner's own list.
+#![tactic(auto)]
+
 ghost use Rattle.std.specs.Prelude.{◌≡◌};
 ghost use Rattle.lines.specs.Lines.{lines_answer, range_of};
 ghost use Rattle.lines.specs.Readings.{read_lines};
@@ -7,7 +9,7 @@ ghost use Rattle.lines.specs.Readings.{read_lines};
 pub mod range;
 
 // What the test of a list of lines says.
-#[derive(Drop)]
+#[derive(Clone, Copy)]
 pub enum LinesReport {
     Fine,
     TooLong,
@@ -15,7 +17,7 @@ pub enum LinesReport {
 }
 
 // The lines of a range; none where the list is refused.
-#[derive(Drop)]
+#[derive(Clone, Copy)]
 pub struct LineRange<'a> {
     pub report: LinesReport,
     pub part: &'a [u64],

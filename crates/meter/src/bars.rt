@@ -135,7 +135,7 @@ fn ascending(words: &[u32]) -> bool
 }
 
 // What every start begins with: the start of bar 1, and whether the map's bars ascend.
-#[derive(Drop)]
+#[derive(Clone, Copy)]
 pub struct Opening {
     pub ascending: bool,
     pub one: Beat,

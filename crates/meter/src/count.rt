@@ -10,7 +10,7 @@ use crate::bars::Opening;
 use beats::{Beat, sums};
 
 // The bar at which doubling ended, or none up to 2^31.
-#[derive(Drop)]
+#[derive(Clone, Copy)]
 pub enum Upper {
     Bar(u32),
     Unsearched,

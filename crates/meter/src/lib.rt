@@ -2,6 +2,8 @@
 // bars have gone by at a beat. A meter map is flat words, three a point: bar, numerator,
 // denominator. These are the calls with their refusals, 3, 4 and 1 in this order; crates above,
 // which have tested their map, call `bars` and `count`.
+#![tactic(auto)]
+
 ghost use Rattle.std.specs.Prelude.{◌≡◌};
 ghost use Rattle.meter.specs.Meters.{pickup_or, sound_pickup};
 ghost use Rattle.meter.specs.Answers.{meter_answer, length_answer, start_answer, count_answer};
@@ -16,7 +18,7 @@ pub mod count;
 pub const MOST_WORDS: usize = 196_608;
 
 // A time signature from a bar on.
-#[derive(Drop)]
+#[derive(Clone, Copy)]
 pub struct MeterPoint {
     pub bar: u32,
     pub numerator: u32,
@@ -24,14 +26,14 @@ pub struct MeterPoint {
 }
 
 // How long bar 0 lasts, where it is not what its meter says.
-#[derive(Drop)]
+#[derive(Clone, Copy)]
 pub enum Pickup {
     Absent,
     Present(Beat),
 }
 
 // A meter, or what refuses it: Uneven 3, TooLong 4.
-#[derive(Drop)]
+#[derive(Clone, Copy)]
 pub enum MeterAnswer {
     Meter(MeterPoint),
     Uneven,
@@ -39,7 +41,7 @@ pub enum MeterAnswer {
 }
 
 // A bar's length or start, or what refuses it: Uneven 3, TooLong 4, NotBeat 1.
-#[derive(Drop)]
+#[derive(Clone, Copy)]
 pub enum BarAnswer {
     Beats(Beat),
     Uneven,
@@ -48,7 +50,7 @@ pub enum BarAnswer {
 }
 
 // A count of bars, or what refuses it: Uneven 3, TooLong 4, NotBeat 1.
-#[derive(Drop)]
+#[derive(Clone, Copy)]
 pub enum CountAnswer {
     Bars(u32),
     Uneven,

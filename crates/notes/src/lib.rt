@@ -1,12 +1,14 @@
 // Notes as flat words, four a note: step, len, gain bits and tag. The work on words whose numbers
 // are tested is in `words` and `sorting`.
+#![tactic(auto)]
+
 ghost use Rattle.std.specs.Prelude.{◌≡◌};
 ghost use Rattle.notes.specs.Notes.{placed, refusal_of_one, refusal_of_two};
 
 pub mod sorting;
 pub mod words;
 
-#[derive(Drop)]
+#[derive(Clone, Copy)]
 pub struct Note {
     pub step: u32,
     pub len: u32,

@@ -9,7 +9,7 @@ ghost use Rattle.numbers.specs.Exacts.{size_of, wide_of, value_of, exact_of, ord
 use crate::MOST;
 
 // The number hi * 2^64 + lo.
-#[derive(Drop)]
+#[derive(Clone, Copy)]
 pub struct Wide {
     pub hi: u64,
     pub lo: u64,
@@ -112,14 +112,14 @@ impl Wide {
 }
 
 // size, or minus size where neg is set. Every function here that makes one leaves neg of 0 unset.
-#[derive(Drop)]
+#[derive(Clone, Copy)]
 pub struct Exact {
     pub neg: bool,
     pub size: Wide,
 }
 
 // Where a number stands to another.
-#[derive(Drop)]
+#[derive(Clone, Copy)]
 pub enum Order {
     Less,
     Equal,

@@ -1,5 +1,7 @@
 // Whole numbers for exact music: signs, two's complement, sums and products that stop at the end of 64 bits, and the
 // greatest common divisor. Exact products and sums past 64 bits are in `exact`.
+#![tactic(auto)]
+
 ghost use Rattle.std.specs.Prelude.{◌≡◌, min, max, ◌+◌, ◌*◌, ◌^◌, ◌-◌, nat_abs};
 ghost use Rattle.numbers.specs.Signs.{is_neg, with_sign, to_i64};
 ghost use Rattle.numbers.specs.Bits.{signed_of, bits_of};

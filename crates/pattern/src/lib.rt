@@ -1,6 +1,8 @@
 // Transforms of patterns on the step grid. A pattern's notes are lent as flat words, four a note,
 // and the result is written to the front of a lent output. Every refusal is decided before the
 // first word is written, and a refused call changes no word.
+#![tactic(auto)]
+
 ghost use Rattle.pattern.specs.Readings.{Outcome};
 ghost use Rattle.pattern.specs.Calls.{repeat_of, concat_of, layer_of, slice_of, stretch_of, rotate_of, reverse_of, quantize_of, vel_of, gate_of, euclidean_of, tuplet_of};
 
@@ -13,12 +15,12 @@ mod answers;
 mod mapping;
 
 // What a pattern is beside its notes.
-#[derive(Drop)]
+#[derive(Clone, Copy)]
 pub struct Pattern {
     pub bars: u32,
 }
 
-#[derive(Drop)]
+#[derive(Clone, Copy)]
 pub enum PatternAnswer {
     Wrote { notes: usize, pattern: Pattern },
     Uneven,

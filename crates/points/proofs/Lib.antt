@@ -1,3 +1,1 @@
 pub mod Filling
-pub mod Lending
-pub mod Meeting

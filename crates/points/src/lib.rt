@@ -1,6 +1,8 @@
 // The problems of a meter map whose points are given as flat words, three a point: the words are
 // made points of an array, and the part of it that they fill is lent. There are two sizes of array,
 // so that a small map does not cost a large one.
+#![tactic(auto)]
+
 ghost use Rattle.std.specs.Prelude.{◌≡◌, ◌+◌, ◌<◌, length};
 ghost use Rattle.meter.specs.Meters.{point_at};
 ghost use Rattle.problems.specs.Readings.{read_problems};

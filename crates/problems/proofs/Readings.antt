@@ -5,15 +5,20 @@ use mathlib.Core.List.{List}
 use Prim.Native.Nat.{ℕ}
 use lib.Dec.{eqb}
 use Rattle.numbers.specs.Answers.{Answer}
-use Rattle.numbers.proofs.Laws.{Apart, apart_cases, one_reading}
+use Rattle.numbers.proofs.Laws.{Apart, apart_cases, case_of, one_reading}
 use Rattle.problems.specs.declared.ProblemsAnswer.{ProblemsAnswer}
 use Rattle.problems.specs.declared.ProblemsAnswer.TheVariants.{Problems, Uneven, TooLong, NotBeat, NoRoom}
 use Rattle.problems.specs.Readings.{read_problems}
 
+problems_apart_same : (r : ProblemsAnswer) → case_of Problems (λ n. cond (eqb n 3) Uneven (cond (eqb n 4) TooLong (cond (eqb n 1) NotBeat NoRoom))) (read_problems r) ≡ r
+problems_apart_same (Problems count) = refl
+problems_apart_same Uneven = refl
+problems_apart_same TooLong = refl
+problems_apart_same NotBeat = refl
+problems_apart_same NoRoom = refl
+
 pub problems_apart : Apart read_problems
-problems_apart =
-    apart_cases read_problems Problems (λ n. cond (eqb n 3) Uneven (cond (eqb n 4) TooLong (cond (eqb n 1) NotBeat NoRoom)))
-    (λ r. elim r [ Problems count ↦ refl | Uneven ↦ refl | TooLong ↦ refl | NotBeat ↦ refl | NoRoom ↦ refl ])
+problems_apart = apart_cases read_problems Problems (λ n. cond (eqb n 3) Uneven (cond (eqb n 4) TooLong (cond (eqb n 1) NotBeat NoRoom))) problems_apart_same
 
 -- what a call of this crate or of points ensures, for one question: an answer by its reading, and the words
 abbrev Told : Answer ℕ → List ℕ → ProblemsAnswer → List ℕ → Type 0

@@ -1,5 +1,7 @@
 // The problems of a meter map and of a tempo map, as records of three words: code, index, value.
 // Every refusal is decided before the first word is written.
+#![tactic(auto)]
+
 ghost use Rattle.std.specs.Prelude.{◌≡◌};
 ghost use Rattle.problems.specs.Answers.{meter_problems_answer, meter_after, tempo_problems_answer, tempo_after};
 ghost use Rattle.problems.specs.Readings.{read_problems};
@@ -12,7 +14,7 @@ mod records;
 mod walk;
 
 // How many problems there are, or what refuses them: Uneven 3, TooLong 4, NotBeat 1, NoRoom 8.
-#[derive(Drop)]
+#[derive(Clone, Copy)]
 pub enum ProblemsAnswer {
     Problems(u32),
     Uneven,

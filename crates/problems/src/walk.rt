@@ -13,7 +13,7 @@ const MOST_POINTS: usize = 65_536;
 
 // Where the walk stands among n points, which pass it is, and the records so far of those that
 // there is room for.
-#[derive(Drop)]
+#[derive(Clone, Copy)]
 pub struct State {
     pub n: usize,
     pub room: usize,

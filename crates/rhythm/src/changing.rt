@@ -7,7 +7,7 @@ ghost use Rattle.rhythm.specs.Changes.{changed, Ready};
 use crate::steps;
 use notes::Note;
 
-#[derive(Drop)]
+#[derive(Clone, Copy)]
 pub enum Change {
     // each step so many steps later
     Later(u64),

@@ -43,7 +43,7 @@ pub fn write_window(words: &[u32], start: u32, len: u32, out: &mut [u32])
 }
 
 // Whether all stays on the grid, or what does not.
-#[derive(Drop)]
+#[derive(Clone, Copy)]
 pub enum Grid {
     Fits,
     Off { what: u32, place: usize, value: u32 },

@@ -9,7 +9,7 @@ use crate::steps;
 use notes::Note;
 
 // How notes are spread over the steps.
-#[derive(Drop)]
+#[derive(Clone, Copy)]
 pub enum Spread {
     Pulses { pulses: u32, steps: u32 },
     Tuplet { count: u32, steps: u32 },

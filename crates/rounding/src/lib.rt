@@ -1,6 +1,8 @@
 // Floats worked out from their bits: the sign, rounding half away from zero, the casts that stop at
 // a width's ends, flooring, a maximum, and floats as words; with them clamp and widening. Every
 // function answers every input, NaNs and infinities included, and its contract is one equation.
+#![tactic(auto)]
+
 ghost use Rattle.std.specs.Prelude.{◌≡◌, if◌then◌else◌};
 ghost use Rattle.std.specs.Float.Ieee as Ieee;
 ghost use Rattle.std.specs.Float.{binary32, binary64};

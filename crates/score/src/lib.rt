@@ -1,5 +1,7 @@
 // The score file: whether bytes are one, and what it says. It is read into lent arrays that hold
 // the largest file's points, so that a bad file is the only refusal.
+#![tactic(auto)]
+
 ghost use Rattle.std.specs.Prelude.{◌≡◌};
 ghost use Rattle.score.specs.Format.{is_score};
 ghost use Rattle.score.specs.Answers.{score_answer, Leaves};
@@ -14,7 +16,7 @@ mod words;
 pub const LONGEST: usize = 19504;
 
 // What a score file says beside the points of its two maps.
-#[derive(Drop)]
+#[derive(Clone, Copy)]
 pub struct Score {
     pub rate: u32,
     // the meter where no meter point is in force: so many beats a bar, over 4; 0 counts as 1
@@ -27,7 +29,7 @@ pub struct Score {
     pub tempos: usize,
 }
 
-#[derive(Drop)]
+#[derive(Clone, Copy)]
 pub enum ScoreAnswer {
     Read(Score),
     BadFile,

@@ -1,5 +1,7 @@
 // The score file, written: the mirror of `score::read_score`, from the same lists and the same
 // struct.
+#![tactic(auto)]
+
 ghost use Rattle.score_writer.specs.Answers.{Writes};
 ghost use Rattle.score_writer.specs.Readings.{read_write};
 
@@ -8,7 +10,7 @@ use score::{LONGEST, Score};
 mod file;
 mod words;
 
-#[derive(Drop)]
+#[derive(Clone, Copy)]
 pub enum WriteAnswer {
     // so many bytes, from the front of the output
     Written(usize),

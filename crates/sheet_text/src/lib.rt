@@ -1,4 +1,6 @@
 // The sheet of a score file, as text: what the program prints, from the file's bytes.
+#![tactic(auto)]
+
 ghost use Rattle.std.specs.Prelude.{◌≡◌, ◌≤◌, length, take};
 ghost use Rattle.text.specs.Texts.{Puts};
 ghost use Rattle.sheet_text.specs.Sheets.{sheet_text};

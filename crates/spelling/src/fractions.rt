@@ -8,7 +8,7 @@ use beats::Beat;
 use splits::scan;
 
 // What a numerator's text says.
-#[derive(Drop)]
+#[derive(Clone, Copy)]
 pub enum Signed {
     Number(i64),
     NotNumber,

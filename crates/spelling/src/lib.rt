@@ -1,4 +1,6 @@
 // Numbers, beats and tempos, read from a word of text. Every word has an answer.
+#![tactic(auto)]
+
 ghost use Rattle.std.specs.Prelude.{◌≡◌};
 ghost use Rattle.spelling.specs.Words.{number_of, beat_of, tempo_of};
 
@@ -11,13 +13,13 @@ mod points;
 
 pub use points::over_ten;
 
-#[derive(Drop)]
+#[derive(Clone, Copy)]
 pub enum NumberAnswer {
     Read(u32),
     NotNumber,
 }
 
-#[derive(Drop)]
+#[derive(Clone, Copy)]
 pub enum BeatWord {
     Read(Beat),
     // not the text of a fraction, or one whose numbers are too large
@@ -26,7 +28,7 @@ pub enum BeatWord {
     NotBeat,
 }
 
-#[derive(Drop)]
+#[derive(Clone, Copy)]
 pub enum TempoWord {
     // the bits of a binary32
     Read(u32),

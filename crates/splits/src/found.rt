@@ -6,7 +6,7 @@ ghost use Rattle.splits.specs.Readings.{read_found, Within};
 use crate::scan;
 
 // One word or two, each from a place up to another; or another number of words.
-#[derive(Drop)]
+#[derive(Clone, Copy)]
 pub enum Found {
     One(usize, usize),
     Two(usize, usize, usize, usize),

@@ -15,12 +15,15 @@ use Rattle.tempo.specs.Answers.{all_beats, map_test, Walkable, if_walkable, test
 use Rattle.tempo.specs.Readings.{read_test}
 use Rattle.tempo.proofs.Readings.{tests_apart}
 
+read : (f : MapTest) → if_walkable f (accepted tt) ≡ read_test f
+read Fine = refl
+read Uneven = refl
+read TooLong = refl
+read NotBeat = refl
+
 -- the answer of the test is what it found
 pub finding : (nums : List ℤ) (dens tempos : List ℕ) (r : MapTest) → read_test r ≡ test_answer nums dens tempos → r ≡ map_test nums dens tempos
 finding nums dens tempos r e = tests_apart r (map_test nums dens tempos) (e ∙ read (map_test nums dens tempos))
-  where
-    read : (f : MapTest) → if_walkable f (accepted tt) ≡ read_test f
-    read f = elim f [ Fine ↦ refl | Uneven ↦ refl | TooLong ↦ refl | NotBeat ↦ refl ]
 
 pub walkable : (nums : List ℤ) (dens tempos : List ℕ) → map_test nums dens tempos ≡ Fine → Walkable nums dens tempos
 unfolding map_test

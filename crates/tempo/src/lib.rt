@@ -2,6 +2,8 @@
 // parallel lists, of the points' numerators, denominators and tempos, each tempo by its bits. These
 // are the calls with their refusals, 3, 4, 1 and 5 in this order; crates above, which have tested
 // their map, call `walks`.
+#![tactic(auto)]
+
 ghost use Rattle.std.specs.Prelude.{◌≡◌, length};
 ghost use Rattle.tempo.specs.Answers.{all_beats, test_answer, seconds_answer, tempo_answer, beat_answer};
 ghost use Rattle.tempo.specs.Readings.{read_tempo, read_test};
@@ -11,7 +13,7 @@ use beats::Beat;
 pub mod walks;
 
 // What a walk gives, or what refuses it: Uneven 3, TooLong 4, NotBeat 1, Empty 5.
-#[derive(Drop)]
+#[derive(Clone, Copy)]
 pub enum TempoAnswer {
     Value(f64),
     Uneven,
@@ -22,7 +24,7 @@ pub enum TempoAnswer {
 
 // What a map's test finds: that it can be walked, whatever problems it has; or Uneven 3, TooLong 4,
 // NotBeat 1.
-#[derive(Drop)]
+#[derive(Clone, Copy)]
 pub enum MapTest {
     Fine,
     Uneven,

@@ -2,6 +2,8 @@
 // transport: the meter map as flat words, three a point, the tempo map as three parallel lists.
 // These are the calls with their refusals, 12, 3, 4 and 1 in this order and then their own; crates
 // above, which have tested their maps, call `places`.
+#![tactic(auto)]
+
 ghost use Rattle.std.specs.Prelude.{◌≡◌};
 ghost use Rattle.timeline.specs.Answers.{frame_at_beat_answer, beat_at_frame_answer, frame_at_bar_answer, next_beat_answer, next_bar_answer, position_beats_answer, position_bars_answer, seek_beat_answer, seek_bar_answer, loop_bars_answer};
 ghost use Rattle.timeline.specs.Readings.{read_frame, read_place};
@@ -13,7 +15,7 @@ use transport::{Changed, Transport, change};
 pub mod places;
 pub mod tests;
 
-#[derive(Drop)]
+#[derive(Clone, Copy)]
 pub enum FrameAnswer {
     Frame(u64),
     Refused(Refusal),
@@ -21,7 +23,7 @@ pub enum FrameAnswer {
 }
 
 // A place in beats or in bars.
-#[derive(Drop)]
+#[derive(Clone, Copy)]
 pub enum PlaceAnswer {
     Place(f64),
     Refused(Refusal),

@@ -8,7 +8,7 @@ ghost use Rattle.transport.specs.Readings.{refused_by};
 use tempo::MapTest;
 use transport::{Changed, Report, Transport, change};
 
-#[derive(Drop)]
+#[derive(Clone, Copy)]
 pub enum Refusal {
     Unsound,
     Uneven,
@@ -16,7 +16,7 @@ pub enum Refusal {
     NotBeat,
 }
 
-#[derive(Drop)]
+#[derive(Clone, Copy)]
 pub enum Test {
     Sound,
     Refused(Refusal),

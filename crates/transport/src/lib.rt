@@ -1,6 +1,8 @@
 // The transport: a clock in frames that plays, pauses, loops and ends. It is one struct by value.
 // Each call that changes it hands back the new one, or with a refusal the old one; the calls that
 // go through the meter and tempo maps are in the crate `timeline`.
+#![tactic(auto)]
+
 ghost use Rattle.std.specs.Prelude.{◌≡◌};
 ghost use Rattle.transport.specs.Transports.{sound, constant_at, made_answer, playing};
 ghost use Rattle.transport.specs.Changes.{play_answer, pause_answer, stop_answer, seek_answer, loop_answer, unloop_answer};
@@ -12,21 +14,21 @@ use meter::Pickup;
 pub mod change;
 pub mod playhead;
 
-#[derive(Drop)]
+#[derive(Clone, Copy)]
 pub enum PlayState {
     Stopped,
     Playing,
     Paused,
 }
 
-#[derive(Drop)]
+#[derive(Clone, Copy)]
 pub enum LoopRange {
     Off,
     // from its first frame up to its end, which is not in it
     On(u64, u64),
 }
 
-#[derive(Drop)]
+#[derive(Clone, Copy)]
 pub struct Transport {
     pub sample_rate: u32,
     // the tempo where no tempo map is lent
@@ -40,14 +42,14 @@ pub struct Transport {
     pub pickup: Pickup,
 }
 
-#[derive(Drop)]
+#[derive(Clone, Copy)]
 pub enum MadeAnswer {
     Made(Transport),
     NotBeat,
 }
 
 // What a call that changes a transport says.
-#[derive(Drop)]
+#[derive(Clone, Copy)]
 pub enum Report {
     Done,
     Unsound,
@@ -58,21 +60,21 @@ pub enum Report {
 }
 
 // The transport after the call; where it refuses, as it was.
-#[derive(Drop)]
+#[derive(Clone, Copy)]
 pub struct Changed {
     pub transport: Transport,
     pub report: Report,
 }
 
 // Whether the advance wrapped, and whether it finished.
-#[derive(Drop)]
+#[derive(Clone, Copy)]
 pub enum Advance {
     Moved(bool, bool),
     Unsound,
 }
 
 // The transport after the advance; where it refuses, as it was.
-#[derive(Drop)]
+#[derive(Clone, Copy)]
 pub struct Advanced {
     pub transport: Transport,
     pub report: Advance,

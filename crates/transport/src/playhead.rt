@@ -6,7 +6,7 @@ ghost use Rattle.transport.specs.Advances.{unlooped, standing, came, ran, advanc
 use crate::{LoopRange, PlayState, Transport, change};
 
 // Where a playhead that was carried to a frame stands.
-#[derive(Drop)]
+#[derive(Clone, Copy)]
 pub enum Stands {
     At(u64),
     Wrapped(u64),
@@ -14,7 +14,7 @@ pub enum Stands {
 }
 
 // The transport after an advance, and what the advance did.
-#[derive(Drop)]
+#[derive(Clone, Copy)]
 pub struct Run {
     pub transport: Transport,
     pub wrapped: bool,

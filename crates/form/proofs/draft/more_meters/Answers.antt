@@ -1,0 +1,8 @@
+-- As defined.
+use mathlib.Core.Path.{refl}
+use Rattle.form.specs.Drafts.{more_meters}
+use Rattle.form.proofs.draft.more_meters.Goals as goal
+
+pub returns : goal.returns
+unfolding more_meters
+returns c = refl

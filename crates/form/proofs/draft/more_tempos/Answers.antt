@@ -1,0 +1,8 @@
+-- As defined.
+use mathlib.Core.Path.{refl}
+use Rattle.form.specs.Drafts.{more_tempos}
+use Rattle.form.proofs.draft.more_tempos.Goals as goal
+
+pub returns : goal.returns
+unfolding more_tempos
+returns c = refl

@@ -1,0 +1,12 @@
+-- By the one number behind the key.
+use mathlib.Core.Path.{sym, ap, ◌∙◌}
+use Rattle.items.specs.Items.{beats_item}
+use Rattle.items.proofs.keys.beats.Goals as goal
+
+pub returns-in-Wrong : goal.returns-in-Wrong
+unfolding beats_item
+returns-in-Wrong c = ap beats_item (sym c.in-Wrong.is ∙ c.sole.ensures)
+
+pub returns-in-Number : goal.returns-in-Number
+unfolding beats_item
+returns-in-Number c = ap beats_item (sym c.in-Number.is ∙ c.sole.ensures)

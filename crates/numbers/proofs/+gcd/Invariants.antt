@@ -1,0 +1,5 @@
+-- Each call makes b smaller.
+use Rattle.numbers.proofs.+gcd.Given as goal
+
+abbrev pub decreases-gcd : goal.decreases-gcd
+decreases-gcd l = l.b

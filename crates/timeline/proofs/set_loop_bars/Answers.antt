@@ -1,0 +1,17 @@
+-- The test's refusals, each by its number; else the answer is that of the walk, whose lists the test found parallel.
+use Rattle.timeline.proofs.Testing.{passed_change, refused_change, maps_parallel}
+use Rattle.timeline.proofs.set_loop_bars.Goals as goal
+
+pub frame_at_bar-from-requires : goal.frame_at_bar-from-requires
+frame_at_bar-from-requires c = maps_parallel _ _ _ _ _ c.maps_test.ensures c.in-Sound.is
+
+pub frame_at_bar-to-requires : goal.frame_at_bar-to-requires
+frame_at_bar-to-requires c = maps_parallel _ _ _ _ _ c.maps_test.ensures c.in-Sound.is
+
+pub returns-in-Refused : goal.returns-in-Refused
+returns-in-Refused c = rw c.handed_back.ensures (refused_change _ _ _ c.maps_test.ensures c.in-Refused.is)
+
+pub returns-in-Sound : goal.returns-in-Sound
+returns-in-Sound c =
+    rw (c.looped.ensures, c.frame_at_bar-from.ensures, c.frame_at_bar-to.ensures)
+    (passed_change _ _ _ c.maps_test.ensures c.in-Sound.is)
