@@ -1,12 +1,15 @@
 // Answers questions about bars: ops 10 to 13 of docs/QUESTIONS.md. It reads questions from standard
 // input and writes a line for each.
+#![tactic(auto)]
+
 use asking::refusals::{NOT_BEAT, TOO_LONG, UNEVEN};
-use asking::{Asked, CHUNK, HELD, MOST};
+use asking::{Answers, Asked, MOST, Questions};
 use beats::Beat;
 use meter::{BarAnswer, CountAnswer, MeterAnswer, MeterPoint};
+use std::io;
 
 // What is answered.
-#[derive(Drop)]
+#[derive(Clone, Copy)]
 enum Line {
     Bars(u32),
     Beats(Beat),
@@ -15,36 +18,36 @@ enum Line {
     Unknown,
 }
 
-fn point_line(out: &mut [u8; HELD], to: &mut usize, point: MeterPoint) {
+fn point_line(out: &mut Answers, point: MeterPoint) -> io::Result<()> {
     let bar = point.bar;
     let numerator = point.numerator;
     let denominator = point.denominator;
-    asking::first(out, to, 0);
-    asking::more(out, to, bar as u64);
-    asking::more(out, to, numerator as u64);
-    asking::more(out, to, denominator as u64);
-    asking::end_line(out, to);
+    asking::first(out, 0)?;
+    asking::more(out, bar as u64)?;
+    asking::more(out, numerator as u64)?;
+    asking::more(out, denominator as u64)?;
+    asking::end_line(out)
 }
 
-fn beat_line(out: &mut [u8; HELD], to: &mut usize, beat: Beat) {
-    asking::first(out, to, 0);
-    asking::more_beat(out, to, beat);
-    asking::end_line(out, to);
+fn beat_line(out: &mut Answers, beat: Beat) -> io::Result<()> {
+    asking::first(out, 0)?;
+    asking::more_beat(out, beat)?;
+    asking::end_line(out)
 }
 
-fn bars_line(out: &mut [u8; HELD], to: &mut usize, bars: u32) {
-    asking::first(out, to, 0);
-    asking::more(out, to, bars as u64);
-    asking::end_line(out, to);
+fn bars_line(out: &mut Answers, bars: u32) -> io::Result<()> {
+    asking::first(out, 0)?;
+    asking::more(out, bars as u64)?;
+    asking::end_line(out)
 }
 
-fn write_line(out: &mut [u8; HELD], to: &mut usize, line: Line) {
+fn write_line(out: &mut Answers, line: Line) -> io::Result<()> {
     match line {
-        Line::Bars(bars) => bars_line(out, to, bars),
-        Line::Beats(beat) => beat_line(out, to, beat),
-        Line::Meter(point) => point_line(out, to, point),
-        Line::Refused(number) => asking::refused(out, to, number),
-        Line::Unknown => asking::unknown(out, to),
+        Line::Bars(bars) => bars_line(out, bars),
+        Line::Beats(beat) => beat_line(out, beat),
+        Line::Meter(point) => point_line(out, point),
+        Line::Refused(number) => asking::refused(out, number),
+        Line::Unknown => asking::unknown(out),
     }
 }
 
@@ -122,35 +125,25 @@ fn answer(op: u32, q: &[u32]) -> Line {
 }
 
 // Answers the next question; false where none can follow.
-fn turn(
-    chunk: &mut [u8; CHUNK],
-    at: &mut usize,
-    left: &mut usize,
-    q: &mut [u32; MOST],
-    out: &mut [u8; HELD],
-    to: &mut usize,
-) -> bool {
-    match asking::question(chunk, at, left, q) {
+fn turn(questions: &mut Questions, q: &mut [u32; MOST], out: &mut Answers) -> io::Result<bool> {
+    match asking::question(questions, q)? {
         Asked::Ask(op, n) => {
-            write_line(out, to, answer(op, asking::part(q, 0, n)));
-            true
+            write_line(out, answer(op, asking::part(q, 0, n)))?;
+            Ok(true)
         }
-        Asked::Not(why) => asking::no_question(why, out, to),
+        Asked::Not(why) => asking::no_question(why, out),
     }
 }
 
-// Nothing says that the input ends, so the loop counts its turns down from a number that no run
-// uses up.
-fn main() {
-    let mut chunk = [0u8; CHUNK];
+// Nothing says that the input ends, so the loop counts its turns up to a number that no run uses up.
+fn main(rt: HostRuntime) -> io::Result<()> {
+    let mut questions = Questions::new(rt.stdin());
+    let mut out = Answers::new(rt.stdout());
     let mut q = [0u32; MOST];
-    let mut out = [0u8; HELD];
-    let mut at = 0;
-    let mut left = 0;
-    let mut to = 0;
-    let mut turns = u64::MAX;
-    while turns > 0 && turn(&mut chunk, &mut at, &mut left, &mut q, &mut out, &mut to) {
-        turns -= 1;
+    for _ in 0..u64::MAX {
+        if !turn(&mut questions, &mut q, &mut out)? {
+            break;
+        }
     }
-    asking::flush(&mut out, &mut to);
+    asking::flush(&mut out)
 }

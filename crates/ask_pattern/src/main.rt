@@ -1,27 +1,30 @@
 // Answers questions about patterns: ops 60 to 6b of docs/QUESTIONS.md. It reads questions from
 // standard input and writes a line for each.
-use asking::refusals::{BAD_NUMBERS, NO_ROOM, TOO_LONG, UNEVEN};
-use asking::{Asked, CHUNK, HELD, LIST, MOST, ROOM};
-use pattern::{Pattern, PatternAnswer};
+#![tactic(auto)]
 
-fn wrote(out: &mut [u8; HELD], to: &mut usize, notes: usize, pattern: Pattern) {
+use asking::refusals::{BAD_NUMBERS, NO_ROOM, TOO_LONG, UNEVEN};
+use asking::{Answers, Asked, LIST, MOST, Questions, ROOM};
+use pattern::{Pattern, PatternAnswer};
+use std::io;
+
+fn wrote(out: &mut Answers, notes: usize, pattern: Pattern) -> io::Result<()> {
     let bars = pattern.bars;
-    asking::first(out, to, 0);
-    asking::more(out, to, notes as u64);
-    asking::more(out, to, bars as u64);
+    asking::first(out, 0)?;
+    asking::more(out, notes as u64)?;
+    asking::more(out, bars as u64)
 }
 
 // The beginning of a line: the notes that were written and the bars, or the refusal.
-fn pattern_answer(out: &mut [u8; HELD], to: &mut usize, answer: PatternAnswer) {
+fn pattern_answer(out: &mut Answers, answer: PatternAnswer) -> io::Result<()> {
     match answer {
-        PatternAnswer::Wrote { notes, pattern } => wrote(out, to, notes, pattern),
-        PatternAnswer::Uneven => asking::first(out, to, UNEVEN),
-        PatternAnswer::TooLong => asking::first(out, to, TOO_LONG),
-        PatternAnswer::BadNumbers => asking::first(out, to, BAD_NUMBERS),
+        PatternAnswer::Wrote { notes, pattern } => wrote(out, notes, pattern),
+        PatternAnswer::Uneven => asking::first(out, UNEVEN),
+        PatternAnswer::TooLong => asking::first(out, TOO_LONG),
+        PatternAnswer::BadNumbers => asking::first(out, BAD_NUMBERS),
         PatternAnswer::OffGrid { what, place, value } => {
-            asking::off_grid(out, to, what as u64, place as u64, value as u64)
+            asking::off_grid(out, what as u64, place as u64, value as u64)
         }
-        PatternAnswer::NoRoom => asking::first(out, to, NO_ROOM),
+        PatternAnswer::NoRoom => asking::first(out, NO_ROOM),
     }
 }
 
@@ -183,65 +186,54 @@ fn past_lists(op: u32, q: &[u32], at: usize) -> usize {
 }
 
 // The line ends with the lent words as they are after the call.
-fn ask(op: u32, q: &[u32], lent: &mut [u32], out: &mut [u8; HELD], to: &mut usize) {
+fn ask(op: u32, q: &[u32], lent: &mut [u32], out: &mut Answers) -> io::Result<()> {
     let at = room_at(op);
     let room = asking::u32_at(q, at) as usize;
     let lists = asking::past(q, at, 1);
     if past_lists(op, q, lists) != q.len() || room > lent.len() {
-        asking::unknown(out, to);
-        return;
+        return asking::unknown(out);
     }
     let lent = asking::lend_u32s(lent, room);
     asking::mark_u32s(lent);
-    pattern_answer(out, to, called(op, q, lent));
-    asking::more_u32s(out, to, lent);
-    asking::end_line(out, to);
+    pattern_answer(out, called(op, q, lent))?;
+    asking::more_u32s(out, lent)?;
+    asking::end_line(out)
 }
 
-fn answer(op: u32, q: &[u32], lent: &mut [u32; ROOM], out: &mut [u8; HELD], to: &mut usize) {
+fn answer(op: u32, q: &[u32], lent: &mut [u32; ROOM], out: &mut Answers) -> io::Result<()> {
     if 0x60 <= op && op <= 0x6b {
-        ask(op, q, lent, out, to);
+        ask(op, q, lent, out)
     } else {
-        asking::unknown(out, to);
+        asking::unknown(out)
     }
 }
 
 // Answers the next question; false where none can follow.
 fn turn(
-    chunk: &mut [u8; CHUNK],
-    at: &mut usize,
-    left: &mut usize,
+    questions: &mut Questions,
     q: &mut [u32; MOST],
     lent: &mut [u32; ROOM],
-    out: &mut [u8; HELD],
-    to: &mut usize,
-) -> bool {
-    match asking::question(chunk, at, left, q) {
+    out: &mut Answers,
+) -> io::Result<bool> {
+    match asking::question(questions, q)? {
         Asked::Ask(op, n) => {
-            answer(op, asking::part(q, 0, n), lent, out, to);
-            true
+            answer(op, asking::part(q, 0, n), lent, out)?;
+            Ok(true)
         }
-        Asked::Not(why) => asking::no_question(why, out, to),
+        Asked::Not(why) => asking::no_question(why, out),
     }
 }
 
-// Nothing says that the input ends, so the loop counts its turns down from a number that no run
-// uses up.
-fn main() {
-    let mut chunk = [0u8; CHUNK];
+// Nothing says that the input ends, so the loop counts its turns up to a number that no run uses up.
+fn main(rt: HostRuntime) -> io::Result<()> {
+    let mut questions = Questions::new(rt.stdin());
+    let mut out = Answers::new(rt.stdout());
     let mut q = [0u32; MOST];
     let mut lent = [0u32; ROOM];
-    let mut out = [0u8; HELD];
-    let mut at = 0;
-    let mut left = 0;
-    let mut to = 0;
-    let mut turns = u64::MAX;
-    while turns > 0
-        && turn(
-            &mut chunk, &mut at, &mut left, &mut q, &mut lent, &mut out, &mut to,
-        )
-    {
-        turns -= 1;
+    for _ in 0..u64::MAX {
+        if !turn(&mut questions, &mut q, &mut lent, &mut out)? {
+            break;
+        }
     }
-    asking::flush(&mut out, &mut to);
+    asking::flush(&mut out)
 }

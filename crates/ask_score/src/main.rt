@@ -1,6 +1,9 @@
 // Answers questions about score files: op 70 of docs/QUESTIONS.md. It reads questions from standard
 // input and writes a line for each.
-use asking::{Asked, CHUNK, HELD, MOST};
+#![tactic(auto)]
+
+use asking::{Answers, Asked, MOST, Questions};
+use std::io;
 
 // The most bytes of a file that is asked.
 const FILE: usize = 65536;
@@ -45,12 +48,11 @@ fn longer(byte: u8) -> u64 {
 }
 
 // The bytes of a text, behind what the line has.
-fn more_bytes(out: &mut [u8; HELD], to: &mut usize, text: &[u8]) {
-    let mut k = 0;
-    while k < text.len() {
-        asking::more(out, to, longer(text[k]));
-        k += 1;
+fn more_bytes(out: &mut Answers, text: &[u8]) -> io::Result<()> {
+    for b in text {
+        asking::more(out, longer(*b))?;
     }
+    Ok(())
 }
 
 // The number of the refusal where the text is `refused 13`, and 0 where it is a sheet, which begins
@@ -60,69 +62,58 @@ fn number(text: &[u8; 1024]) -> u64 {
 }
 
 // The line of a file: its number, and the bytes that are printed for it.
-fn sheet(file: &[u8], out: &mut [u8; HELD], to: &mut usize) {
+fn sheet(file: &[u8], out: &mut Answers) -> io::Result<()> {
     let mut text = [0u8; 1024];
     let n = sheet_text::sheet_of(file, &mut text);
-    asking::first(out, to, number(&text));
-    more_bytes(out, to, &text[..n]);
-    asking::end_line(out, to);
+    asking::first(out, number(&text))?;
+    more_bytes(out, &text[..n])?;
+    asking::end_line(out)
 }
 
 // 70: a count of bytes, and the bytes, four a word.
-fn ask_sheet(q: &[u32], bytes: &mut [u8; FILE], out: &mut [u8; HELD], to: &mut usize) {
+fn ask_sheet(q: &[u32], bytes: &mut [u8; FILE], out: &mut Answers) -> io::Result<()> {
     let count = asking::u32_at(q, 0) as usize;
     let end = asking::past(q, 1, (count + 3) / 4);
     if end != q.len() || count > FILE {
-        asking::unknown(out, to);
-        return;
+        return asking::unknown(out);
     }
     unpack(asking::part(q, 1, end), bytes);
-    sheet(front(bytes, count), out, to);
+    sheet(front(bytes, count), out)
 }
 
-fn answer(op: u32, q: &[u32], bytes: &mut [u8; FILE], out: &mut [u8; HELD], to: &mut usize) {
+fn answer(op: u32, q: &[u32], bytes: &mut [u8; FILE], out: &mut Answers) -> io::Result<()> {
     match op {
-        0x70 => ask_sheet(q, bytes, out, to),
-        _ => asking::unknown(out, to),
+        0x70 => ask_sheet(q, bytes, out),
+        _ => asking::unknown(out),
     }
 }
 
 // Answers the next question; false where none can follow.
 fn turn(
-    chunk: &mut [u8; CHUNK],
-    at: &mut usize,
-    left: &mut usize,
+    questions: &mut Questions,
     q: &mut [u32; MOST],
     bytes: &mut [u8; FILE],
-    out: &mut [u8; HELD],
-    to: &mut usize,
-) -> bool {
-    match asking::question(chunk, at, left, q) {
+    out: &mut Answers,
+) -> io::Result<bool> {
+    match asking::question(questions, q)? {
         Asked::Ask(op, n) => {
-            answer(op, asking::part(q, 0, n), bytes, out, to);
-            true
+            answer(op, asking::part(q, 0, n), bytes, out)?;
+            Ok(true)
         }
-        Asked::Not(why) => asking::no_question(why, out, to),
+        Asked::Not(why) => asking::no_question(why, out),
     }
 }
 
-// Nothing says that the input ends, so the loop counts its turns down from a number that no run
-// uses up.
-fn main() {
-    let mut chunk = [0u8; CHUNK];
+// Nothing says that the input ends, so the loop counts its turns up to a number that no run uses up.
+fn main(rt: HostRuntime) -> io::Result<()> {
+    let mut questions = Questions::new(rt.stdin());
+    let mut out = Answers::new(rt.stdout());
     let mut q = [0u32; MOST];
     let mut bytes = [0u8; FILE];
-    let mut out = [0u8; HELD];
-    let mut at = 0;
-    let mut left = 0;
-    let mut to = 0;
-    let mut turns = u64::MAX;
-    while turns > 0
-        && turn(
-            &mut chunk, &mut at, &mut left, &mut q, &mut bytes, &mut out, &mut to,
-        )
-    {
-        turns -= 1;
+    for _ in 0..u64::MAX {
+        if !turn(&mut questions, &mut q, &mut bytes, &mut out)? {
+            break;
+        }
     }
-    asking::flush(&mut out, &mut to);
+    asking::flush(&mut out)
 }

@@ -1,28 +1,31 @@
 // Answers questions about tempo maps: ops 20 to 22 of docs/QUESTIONS.md. It reads questions from
 // standard input and writes a line for each.
+#![tactic(auto)]
+
 use asking::refusals::{EMPTY_MAP, NOT_BEAT, TOO_LONG, UNEVEN};
-use asking::{Asked, CHUNK, HELD, LIST, MOST};
+use asking::{Answers, Asked, LIST, MOST, Questions};
+use std::io;
 use tempo::TempoAnswer;
 
 // What is answered.
-#[derive(Drop)]
+#[derive(Clone, Copy)]
 enum Line {
     Number(f64),
     Refused(u64),
     Unknown,
 }
 
-fn float_line(out: &mut [u8; HELD], to: &mut usize, x: f64) {
-    asking::first(out, to, 0);
-    asking::more(out, to, rounding::f64_word(x));
-    asking::end_line(out, to);
+fn float_line(out: &mut Answers, x: f64) -> io::Result<()> {
+    asking::first(out, 0)?;
+    asking::more(out, rounding::f64_word(x))?;
+    asking::end_line(out)
 }
 
-fn write_line(out: &mut [u8; HELD], to: &mut usize, line: Line) {
+fn write_line(out: &mut Answers, line: Line) -> io::Result<()> {
     match line {
-        Line::Number(x) => float_line(out, to, x),
-        Line::Refused(number) => asking::refused(out, to, number),
-        Line::Unknown => asking::unknown(out, to),
+        Line::Number(x) => float_line(out, x),
+        Line::Refused(number) => asking::refused(out, number),
+        Line::Unknown => asking::unknown(out),
     }
 }
 
@@ -65,40 +68,30 @@ fn answer(op: u32, q: &[u32], nums: &mut [i64; LIST]) -> Line {
 
 // Answers the next question; false where none can follow.
 fn turn(
-    chunk: &mut [u8; CHUNK],
-    at: &mut usize,
-    left: &mut usize,
+    questions: &mut Questions,
     q: &mut [u32; MOST],
     nums: &mut [i64; LIST],
-    out: &mut [u8; HELD],
-    to: &mut usize,
-) -> bool {
-    match asking::question(chunk, at, left, q) {
+    out: &mut Answers,
+) -> io::Result<bool> {
+    match asking::question(questions, q)? {
         Asked::Ask(op, n) => {
-            write_line(out, to, answer(op, asking::part(q, 0, n), nums));
-            true
+            write_line(out, answer(op, asking::part(q, 0, n), nums))?;
+            Ok(true)
         }
-        Asked::Not(why) => asking::no_question(why, out, to),
+        Asked::Not(why) => asking::no_question(why, out),
     }
 }
 
-// Nothing says that the input ends, so the loop counts its turns down from a number that no run
-// uses up.
-fn main() {
-    let mut chunk = [0u8; CHUNK];
+// Nothing says that the input ends, so the loop counts its turns up to a number that no run uses up.
+fn main(rt: HostRuntime) -> io::Result<()> {
+    let mut questions = Questions::new(rt.stdin());
+    let mut out = Answers::new(rt.stdout());
     let mut q = [0u32; MOST];
     let mut nums = [0i64; LIST];
-    let mut out = [0u8; HELD];
-    let mut at = 0;
-    let mut left = 0;
-    let mut to = 0;
-    let mut turns = u64::MAX;
-    while turns > 0
-        && turn(
-            &mut chunk, &mut at, &mut left, &mut q, &mut nums, &mut out, &mut to,
-        )
-    {
-        turns -= 1;
+    for _ in 0..u64::MAX {
+        if !turn(&mut questions, &mut q, &mut nums, &mut out)? {
+            break;
+        }
     }
-    asking::flush(&mut out, &mut to);
+    asking::flush(&mut out)
 }

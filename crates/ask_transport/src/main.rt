@@ -1,12 +1,15 @@
 // Answers questions about a transport alone: ops 30 to 36, 39, 3b and 3c of docs/QUESTIONS.md. It
 // reads questions from standard input and writes a line for each.
+#![tactic(auto)]
+
 use asking::refusals::{NOT_BEAT, UNSOUND};
-use asking::{Asked, CHUNK, HELD, MOST};
+use asking::{Answers, Asked, MOST, Questions};
 use asking_clock::TRANSPORT;
+use std::io;
 use transport::{Advance, Advanced, Changed, MadeAnswer, Transport};
 
 // What is answered.
-#[derive(Drop)]
+#[derive(Clone, Copy)]
 enum Line {
     Made(MadeAnswer),
     Moved(Advanced),
@@ -14,10 +17,10 @@ enum Line {
     Unknown,
 }
 
-fn made_line(out: &mut [u8; HELD], to: &mut usize, answer: MadeAnswer) {
+fn made_line(out: &mut Answers, answer: MadeAnswer) -> io::Result<()> {
     match answer {
-        MadeAnswer::Made(t) => asking_clock::transport_line(out, to, 0, t),
-        MadeAnswer::NotBeat => asking::refused(out, to, NOT_BEAT),
+        MadeAnswer::Made(t) => asking_clock::transport_line(out, 0, t),
+        MadeAnswer::NotBeat => asking::refused(out, NOT_BEAT),
     }
 }
 
@@ -25,29 +28,29 @@ fn flag(b: bool) -> u64 {
     if b { 1 } else { 0 }
 }
 
-fn moved_line(out: &mut [u8; HELD], to: &mut usize, t: Transport, wrapped: bool, finished: bool) {
-    asking::first(out, to, 0);
-    asking_clock::more_transport(out, to, t);
-    asking::more(out, to, flag(wrapped));
-    asking::more(out, to, flag(finished));
-    asking::end_line(out, to);
+fn moved_line(out: &mut Answers, t: Transport, wrapped: bool, finished: bool) -> io::Result<()> {
+    asking::first(out, 0)?;
+    asking_clock::more_transport(out, t)?;
+    asking::more(out, flag(wrapped))?;
+    asking::more(out, flag(finished))?;
+    asking::end_line(out)
 }
 
-fn advanced_line(out: &mut [u8; HELD], to: &mut usize, advanced: Advanced) {
+fn advanced_line(out: &mut Answers, advanced: Advanced) -> io::Result<()> {
     let t = advanced.transport;
     let report = advanced.report;
     match report {
-        Advance::Moved(wrapped, finished) => moved_line(out, to, t, wrapped, finished),
-        Advance::Unsound => asking_clock::transport_line(out, to, UNSOUND, t),
+        Advance::Moved(wrapped, finished) => moved_line(out, t, wrapped, finished),
+        Advance::Unsound => asking_clock::transport_line(out, UNSOUND, t),
     }
 }
 
-fn write_line(out: &mut [u8; HELD], to: &mut usize, line: Line) {
+fn write_line(out: &mut Answers, line: Line) -> io::Result<()> {
     match line {
-        Line::Made(answer) => made_line(out, to, answer),
-        Line::Moved(advanced) => advanced_line(out, to, advanced),
-        Line::Now(changed) => asking_clock::changed_line(out, to, changed),
-        Line::Unknown => asking::unknown(out, to),
+        Line::Made(answer) => made_line(out, answer),
+        Line::Moved(advanced) => advanced_line(out, advanced),
+        Line::Now(changed) => asking_clock::changed_line(out, changed),
+        Line::Unknown => asking::unknown(out),
     }
 }
 
@@ -140,35 +143,25 @@ fn answer(op: u32, q: &[u32]) -> Line {
 }
 
 // Answers the next question; false where none can follow.
-fn turn(
-    chunk: &mut [u8; CHUNK],
-    at: &mut usize,
-    left: &mut usize,
-    q: &mut [u32; MOST],
-    out: &mut [u8; HELD],
-    to: &mut usize,
-) -> bool {
-    match asking::question(chunk, at, left, q) {
+fn turn(questions: &mut Questions, q: &mut [u32; MOST], out: &mut Answers) -> io::Result<bool> {
+    match asking::question(questions, q)? {
         Asked::Ask(op, n) => {
-            write_line(out, to, answer(op, asking::part(q, 0, n)));
-            true
+            write_line(out, answer(op, asking::part(q, 0, n)))?;
+            Ok(true)
         }
-        Asked::Not(why) => asking::no_question(why, out, to),
+        Asked::Not(why) => asking::no_question(why, out),
     }
 }
 
-// Nothing says that the input ends, so the loop counts its turns down from a number that no run
-// uses up.
-fn main() {
-    let mut chunk = [0u8; CHUNK];
+// Nothing says that the input ends, so the loop counts its turns up to a number that no run uses up.
+fn main(rt: HostRuntime) -> io::Result<()> {
+    let mut questions = Questions::new(rt.stdin());
+    let mut out = Answers::new(rt.stdout());
     let mut q = [0u32; MOST];
-    let mut out = [0u8; HELD];
-    let mut at = 0;
-    let mut left = 0;
-    let mut to = 0;
-    let mut turns = u64::MAX;
-    while turns > 0 && turn(&mut chunk, &mut at, &mut left, &mut q, &mut out, &mut to) {
-        turns -= 1;
+    for _ in 0..u64::MAX {
+        if !turn(&mut questions, &mut q, &mut out)? {
+            break;
+        }
     }
-    asking::flush(&mut out, &mut to);
+    asking::flush(&mut out)
 }

@@ -1,15 +1,18 @@
 // Answers questions about beats, frames and steps: ops 01 to 09 of docs/QUESTIONS.md. It reads
 // questions from standard input and writes a line for each.
+#![tactic(auto)]
+
 use asking::refusals::{NOT_BEAT, OVERFLOW};
-use asking::{Asked, CHUNK, HELD, MOST};
+use asking::{Answers, Asked, MOST, Questions};
 use beats::{Beat, BeatAnswer, FloatAnswer, FrameAnswer, OrderAnswer, StepAnswer};
 use numbers::exact::Order;
+use std::io;
 
 // What of refusal 7 is off the grid: a beat, which has no place and no value.
 const BEAT: u64 = 3;
 
 // What is answered.
-#[derive(Drop)]
+#[derive(Clone, Copy)]
 enum Line {
     Number(u64),
     Two(Beat),
@@ -18,30 +21,30 @@ enum Line {
     Unknown,
 }
 
-fn number_line(out: &mut [u8; HELD], to: &mut usize, x: u64) {
-    asking::first(out, to, 0);
-    asking::more(out, to, x);
-    asking::end_line(out, to);
+fn number_line(out: &mut Answers, x: u64) -> io::Result<()> {
+    asking::first(out, 0)?;
+    asking::more(out, x)?;
+    asking::end_line(out)
 }
 
-fn beat_line(out: &mut [u8; HELD], to: &mut usize, b: Beat) {
-    asking::first(out, to, 0);
-    asking::more_beat(out, to, b);
-    asking::end_line(out, to);
+fn beat_line(out: &mut Answers, b: Beat) -> io::Result<()> {
+    asking::first(out, 0)?;
+    asking::more_beat(out, b)?;
+    asking::end_line(out)
 }
 
-fn off_grid_line(out: &mut [u8; HELD], to: &mut usize) {
-    asking::off_grid(out, to, BEAT, 0, 0);
-    asking::end_line(out, to);
+fn off_grid_line(out: &mut Answers) -> io::Result<()> {
+    asking::off_grid(out, BEAT, 0, 0)?;
+    asking::end_line(out)
 }
 
-fn write_line(out: &mut [u8; HELD], to: &mut usize, line: Line) {
+fn write_line(out: &mut Answers, line: Line) -> io::Result<()> {
     match line {
-        Line::Number(x) => number_line(out, to, x),
-        Line::Two(beat) => beat_line(out, to, beat),
-        Line::Refused(number) => asking::refused(out, to, number),
-        Line::OffGrid => off_grid_line(out, to),
-        Line::Unknown => asking::unknown(out, to),
+        Line::Number(x) => number_line(out, x),
+        Line::Two(beat) => beat_line(out, beat),
+        Line::Refused(number) => asking::refused(out, number),
+        Line::OffGrid => off_grid_line(out),
+        Line::Unknown => asking::unknown(out),
     }
 }
 
@@ -178,35 +181,25 @@ fn answer(op: u32, q: &[u32]) -> Line {
 }
 
 // Answers the next question; false where none can follow.
-fn turn(
-    chunk: &mut [u8; CHUNK],
-    at: &mut usize,
-    left: &mut usize,
-    q: &mut [u32; MOST],
-    out: &mut [u8; HELD],
-    to: &mut usize,
-) -> bool {
-    match asking::question(chunk, at, left, q) {
+fn turn(questions: &mut Questions, q: &mut [u32; MOST], out: &mut Answers) -> io::Result<bool> {
+    match asking::question(questions, q)? {
         Asked::Ask(op, n) => {
-            write_line(out, to, answer(op, asking::part(q, 0, n)));
-            true
+            write_line(out, answer(op, asking::part(q, 0, n)))?;
+            Ok(true)
         }
-        Asked::Not(why) => asking::no_question(why, out, to),
+        Asked::Not(why) => asking::no_question(why, out),
     }
 }
 
-// Nothing says that the input ends, so the loop counts its turns down from a number that no run
-// uses up.
-fn main() {
-    let mut chunk = [0u8; CHUNK];
+// Nothing says that the input ends, so the loop counts its turns up to a number that no run uses up.
+fn main(rt: HostRuntime) -> io::Result<()> {
+    let mut questions = Questions::new(rt.stdin());
+    let mut out = Answers::new(rt.stdout());
     let mut q = [0u32; MOST];
-    let mut out = [0u8; HELD];
-    let mut at = 0;
-    let mut left = 0;
-    let mut to = 0;
-    let mut turns = u64::MAX;
-    while turns > 0 && turn(&mut chunk, &mut at, &mut left, &mut q, &mut out, &mut to) {
-        turns -= 1;
+    for _ in 0..u64::MAX {
+        if !turn(&mut questions, &mut q, &mut out)? {
+            break;
+        }
     }
-    asking::flush(&mut out, &mut to);
+    asking::flush(&mut out)
 }

@@ -1,5 +1,5 @@
 -- Lists of a question, and what a lent output holds before a call.
-use Rattle.std.specs.Prelude.{ℕ, ◌+◌, ◌-◌, ◌*◌, ◌%◌, ◌^◌, cond, List, [], length, ℤ, nat_lt, slice_index, slice_range}
+use Rattle.std.specs.Prelude.{ℕ, ◌+◌, ◌*◌, ◌%◌, ◌^◌, cond, List, [], length, ℤ, nat_lt, slice_index, slice_range}
 use Rattle.numbers.specs.Bits.{signed_of}
 use Rattle.numbers.specs.Lists.{entries}
 use Rattle.asking.specs.Fields.{u64_at}

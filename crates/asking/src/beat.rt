@@ -2,10 +2,10 @@
 ghost use Rattle.std.specs.Prelude.{◌≡◌};
 ghost use Rattle.asking.specs.Fields.{beat_at};
 
-use crate::HELD;
 use crate::fields::{i64_at, u32_at};
-use crate::writing::more;
+use crate::writing::{Answers, more};
 use beats::Beat;
+use std::io;
 
 // Three words: the numerator's two, and the denominator.
 pub fn beat_at(q: &[u32], i: usize) -> Beat
@@ -22,9 +22,9 @@ pub fn beat_at(q: &[u32], i: usize) -> Beat
 }
 
 // Its numerator and its denominator, behind what the line has.
-pub fn more_beat(out: &mut [u8; HELD], to: &mut usize, b: Beat) {
+pub fn more_beat(out: &mut Answers, b: Beat) -> io::Result<()> {
     let num = b.num;
     let den = b.den;
-    more(out, to, numbers::as_bits(num));
-    more(out, to, den as u64);
+    more(out, numbers::as_bits(num))?;
+    more(out, den as u64)
 }

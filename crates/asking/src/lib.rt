@@ -4,6 +4,8 @@
 // No function here has a `requires`: past the end of a question a word is 0, a list is empty, and
 // an index is `NOWHERE`. So a program owes no proof for a question that is malformed, and tests
 // once whether its words are those of the op.
+#![tactic(auto)]
+
 mod beat;
 mod fields;
 mod lists;
@@ -17,8 +19,10 @@ pub use lists::{
     i64s, lend_i64s, lend_u32s, lend_u64s, longs, mark_u32s, mark_u64s, part, past, past_longs,
     past_words, u64s, words,
 };
-pub use reading::{Asked, Unread, no_question, question};
-pub use writing::{end_line, first, flush, more, more_u32s, more_u64s, off_grid, refused, unknown};
+pub use reading::{Asked, Questions, Unread, no_question, question};
+pub use writing::{
+    Answers, end_line, first, flush, more, more_u32s, more_u64s, off_grid, refused, unknown,
+};
 
 // Bytes of input that are held at once: a multiple of 4, so that no word lies across two chunks.
 pub const CHUNK: usize = 65536;

@@ -1,8 +1,33 @@
 // The next question of the input.
 ghost use Rattle.std.specs.Prelude.{◌≡◌, ◌+◌, ◌*◌, ◌≤◌, slice_index};
 
-use crate::writing::unknown;
-use crate::{CHUNK, HELD, MOST};
+use crate::writing::{Answers, unknown};
+use crate::{CHUNK, MOST};
+use std::io;
+use std::io::Stdin;
+
+// The input, a chunk at a time.
+#[derive(Drop)]
+pub struct Questions {
+    stdin: Stdin,
+    chunk: [u8; CHUNK],
+    // Where the next word starts in the chunk.
+    at: usize,
+    // How many of the chunk's bytes are still to be read.
+    left: usize,
+}
+
+impl Questions {
+    // The questions of an input that nothing is read of yet.
+    pub fn new(stdin: Stdin) -> Questions {
+        Questions {
+            stdin,
+            chunk: [0u8; CHUNK],
+            at: 0,
+            left: 0,
+        }
+    }
+}
 
 fn wide(b: u8) -> u32
     ensures { result ≡ b }
@@ -28,7 +53,7 @@ fn word_at(b: &[u8; CHUNK], at: usize) -> u32
     }
 }
 
-#[derive(Drop)]
+#[derive(Clone, Copy)]
 enum Step {
     Word(u32),
     // Bytes are left, and fewer than four.
@@ -36,28 +61,27 @@ enum Step {
     End,
 }
 
-// The next word. `at` is where it starts in the chunk, and `left` how many of the chunk's bytes
-// are still to be read.
-fn next(chunk: &mut [u8; CHUNK], at: &mut usize, left: &mut usize) -> Step {
-    if *left == 0 {
-        *left = io::read_full(0, chunk);
-        *at = 0;
+// The next word.
+fn next(questions: &mut Questions) -> io::Result<Step> {
+    if questions.left == 0 {
+        questions.left = intake::read_full(&mut questions.stdin, &mut questions.chunk)?;
+        questions.at = 0;
     }
-    let n = *left;
-    let i = *at;
+    let n = questions.left;
+    let i = questions.at;
     if n == 0 {
-        return Step::End;
+        return Ok(Step::End);
     }
     if n < 4 {
-        return Step::Short;
+        return Ok(Step::Short);
     }
     // a chunk is whole words, so a word that is there never starts so late
     if i > 65532 {
-        return Step::Short;
+        return Ok(Step::Short);
     }
-    *left = n - 4;
-    *at = i + 4;
-    Step::Word(word_at(chunk, i))
+    questions.left = n - 4;
+    questions.at = i + 4;
+    Ok(Step::Word(word_at(&questions.chunk, i)))
 }
 
 // Puts a word into q, where it has the index.
@@ -68,26 +92,20 @@ fn keep(q: &mut [u32; MOST], k: usize, w: u32) {
 }
 
 // Puts the next n words at the start of q; false where the input ends before.
-fn fill(
-    chunk: &mut [u8; CHUNK],
-    at: &mut usize,
-    left: &mut usize,
-    q: &mut [u32; MOST],
-    n: usize,
-) -> bool {
+fn fill(questions: &mut Questions, q: &mut [u32; MOST], n: usize) -> io::Result<bool> {
     let mut k = 0;
     while k < n {
-        let Step::Word(w) = next(chunk, at, left) else {
-            return false;
+        let Step::Word(w) = next(questions)? else {
+            return Ok(false);
         };
         keep(q, k, w);
         k += 1;
     }
-    true
+    Ok(true)
 }
 
 // Why there is no question to answer.
-#[derive(Drop)]
+#[derive(Clone, Copy)]
 pub enum Unread {
     // A question of more words than the buffer has, which were let pass.
     TooLarge,
@@ -97,72 +115,60 @@ pub enum Unread {
 }
 
 // Lets the n words of a question pass, unless the input ends before.
-fn skip(chunk: &mut [u8; CHUNK], at: &mut usize, left: &mut usize, n: usize) -> Unread {
+fn skip(questions: &mut Questions, n: usize) -> io::Result<Unread> {
     let mut k = n;
     while k > 0 {
-        let Step::Word(_) = next(chunk, at, left) else {
-            return Unread::Cut;
+        let Step::Word(_) = next(questions)? else {
+            return Ok(Unread::Cut);
         };
         k -= 1;
     }
-    Unread::TooLarge
+    Ok(Unread::TooLarge)
 }
 
-#[derive(Drop)]
+#[derive(Clone, Copy)]
 pub enum Asked {
     // The op, and how many words of the buffer are its question.
     Ask(u32, usize),
     Not(Unread),
 }
 
-// The next question: its op, and its words at the start of q. A program starts with `at` and `left`
-// both 0 and leaves them to this function.
-pub fn question(
-    chunk: &mut [u8; CHUNK],
-    at: &mut usize,
-    left: &mut usize,
-    q: &mut [u32; MOST],
-) -> Asked {
-    match next(chunk, at, left) {
-        Step::End => Asked::Not(Unread::End),
-        Step::Short => Asked::Not(Unread::Cut),
-        Step::Word(op) => behind(chunk, at, left, q, op),
+// The next question: its op, and its words at the start of q.
+pub fn question(questions: &mut Questions, q: &mut [u32; MOST]) -> io::Result<Asked> {
+    match next(questions)? {
+        Step::End => Ok(Asked::Not(Unread::End)),
+        Step::Short => Ok(Asked::Not(Unread::Cut)),
+        Step::Word(op) => behind(questions, q, op),
     }
 }
 
 // What is behind the op: a count, and as many words.
-fn behind(
-    chunk: &mut [u8; CHUNK],
-    at: &mut usize,
-    left: &mut usize,
-    q: &mut [u32; MOST],
-    op: u32,
-) -> Asked {
-    let Step::Word(count) = next(chunk, at, left) else {
-        return Asked::Not(Unread::Cut);
+fn behind(questions: &mut Questions, q: &mut [u32; MOST], op: u32) -> io::Result<Asked> {
+    let Step::Word(count) = next(questions)? else {
+        return Ok(Asked::Not(Unread::Cut));
     };
     let n = count as usize;
     if n > MOST {
-        return Asked::Not(skip(chunk, at, left, n));
+        return Ok(Asked::Not(skip(questions, n)?));
     }
-    if fill(chunk, at, left, q, n) {
-        Asked::Ask(op, n)
+    if fill(questions, q, n)? {
+        Ok(Asked::Ask(op, n))
     } else {
-        Asked::Not(Unread::Cut)
+        Ok(Asked::Not(Unread::Cut))
     }
 }
 
 // Answers what is no question; false where none can follow.
-pub fn no_question(why: Unread, out: &mut [u8; HELD], to: &mut usize) -> bool {
+pub fn no_question(why: Unread, out: &mut Answers) -> io::Result<bool> {
     match why {
         Unread::TooLarge => {
-            unknown(out, to);
-            true
+            unknown(out)?;
+            Ok(true)
         }
         Unread::Cut => {
-            unknown(out, to);
-            false
+            unknown(out)?;
+            Ok(false)
         }
-        Unread::End => false,
+        Unread::End => Ok(false),
     }
 }

@@ -2,6 +2,8 @@
 // it: what the programs on bars, on the transport and on cues share. The form is docs/QUESTIONS.md.
 //
 // As in `asking`, no function has a `requires`: a word past the end of a question is 0.
+#![tactic(auto)]
+
 mod maps;
 mod transports;
 mod writing;

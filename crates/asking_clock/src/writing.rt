@@ -1,8 +1,9 @@
 // A Transport, behind what a line has: twelve numbers.
-use asking::HELD;
+use asking::Answers;
 use asking::refusals::{BAD_LOOP, NOT_BEAT, TOO_LONG, UNEVEN, UNSOUND};
 use beats::Beat;
 use meter::Pickup;
+use std::io;
 use transport::{Changed, LoopRange, PlayState, Report, Transport};
 
 fn state_number(state: PlayState) -> u64 {
@@ -13,34 +14,34 @@ fn state_number(state: PlayState) -> u64 {
     }
 }
 
-fn more_three(out: &mut [u8; HELD], to: &mut usize, a: u64, b: u64, c: u64) {
-    asking::more(out, to, a);
-    asking::more(out, to, b);
-    asking::more(out, to, c);
+fn more_three(out: &mut Answers, a: u64, b: u64, c: u64) -> io::Result<()> {
+    asking::more(out, a)?;
+    asking::more(out, b)?;
+    asking::more(out, c)
 }
 
-fn more_loop(out: &mut [u8; HELD], to: &mut usize, looping: LoopRange) {
+fn more_loop(out: &mut Answers, looping: LoopRange) -> io::Result<()> {
     match looping {
-        LoopRange::Off => more_three(out, to, 0, 0, 0),
-        LoopRange::On(start, end) => more_three(out, to, 1, start, end),
+        LoopRange::Off => more_three(out, 0, 0, 0),
+        LoopRange::On(start, end) => more_three(out, 1, start, end),
     }
 }
 
-fn more_present(out: &mut [u8; HELD], to: &mut usize, beat: Beat) {
-    asking::more(out, to, 1);
-    asking::more_beat(out, to, beat);
+fn more_present(out: &mut Answers, beat: Beat) -> io::Result<()> {
+    asking::more(out, 1)?;
+    asking::more_beat(out, beat)
 }
 
-fn more_pickup(out: &mut [u8; HELD], to: &mut usize, pickup: Pickup) {
+fn more_pickup(out: &mut Answers, pickup: Pickup) -> io::Result<()> {
     match pickup {
-        Pickup::Absent => more_three(out, to, 0, 0, 0),
-        Pickup::Present(beat) => more_present(out, to, beat),
+        Pickup::Absent => more_three(out, 0, 0, 0),
+        Pickup::Present(beat) => more_present(out, beat),
     }
 }
 
 // Zeros stand for what an off loop or an absent pickup does not have. What a transport can be asked
 // for is asked for, so that these calls are compared too.
-pub fn more_transport(out: &mut [u8; HELD], to: &mut usize, t: Transport) {
+pub fn more_transport(out: &mut Answers, t: Transport) -> io::Result<()> {
     let rate = t.sample_rate();
     let bpm = t.bpm;
     let beats = t.beats_per_bar;
@@ -50,19 +51,19 @@ pub fn more_transport(out: &mut [u8; HELD], to: &mut usize, t: Transport) {
     let looping = t.loop_range();
     let pickup = t.pickup;
     let word = rounding::f32_word(bpm);
-    more_three(out, to, rate as u64, word as u64, beats as u64);
-    asking::more(out, to, length);
-    asking::more(out, to, position);
-    asking::more(out, to, state_number(state));
-    more_loop(out, to, looping);
-    more_pickup(out, to, pickup);
+    more_three(out, rate as u64, word as u64, beats as u64)?;
+    asking::more(out, length)?;
+    asking::more(out, position)?;
+    asking::more(out, state_number(state))?;
+    more_loop(out, looping)?;
+    more_pickup(out, pickup)
 }
 
 // The line of a number, 0 or a refusal's, and the transport that is handed back.
-pub fn transport_line(out: &mut [u8; HELD], to: &mut usize, number: u64, t: Transport) {
-    asking::first(out, to, number);
-    more_transport(out, to, t);
-    asking::end_line(out, to);
+pub fn transport_line(out: &mut Answers, number: u64, t: Transport) -> io::Result<()> {
+    asking::first(out, number)?;
+    more_transport(out, t)?;
+    asking::end_line(out)
 }
 
 fn report_number(report: Report) -> u64 {
@@ -77,7 +78,7 @@ fn report_number(report: Report) -> u64 {
 }
 
 // The line of a call that changes a transport.
-pub fn changed_line(out: &mut [u8; HELD], to: &mut usize, changed: Changed) {
+pub fn changed_line(out: &mut Answers, changed: Changed) -> io::Result<()> {
     let report = changed.report;
-    transport_line(out, to, report_number(report), changed.transport);
+    transport_line(out, report_number(report), changed.transport)
 }

@@ -11,10 +11,14 @@
 // The size of the others is the number of lines. Every 93rd frame is one, from frame 0 on, and the
 // transport plays in a loop that ends 93 frames behind the last, first from 1,000 frames before its
 // end. A turn puts every cue into the checksum, which is part of what it costs.
+#![tactic(auto)]
+
 mod rows;
 
 use meter::Pickup;
 use rows::{APART, LINES, ROOM, Row};
+use std::env::Env;
+use std::io;
 use transport::{LoopRange, PlayState, Transport};
 
 // The turns of a row that nobody asked by name: never a multiple of 64, after which the checksum
@@ -47,26 +51,42 @@ fn front(lines: &[u64], n: usize) -> &[u64] {
     &lines[a..n]
 }
 
-fn show_empty() {
-    if benching::asked(b"empty", b"any") {
-        benching::line(b"empty", b"any", rows::empty(benching::turns_or(FEW)));
+fn show_empty(rt: &(impl Env + Print)) -> io::Result<()> {
+    if benching::asked(rt, b"empty", b"any") {
+        benching::line(
+            rt,
+            b"empty",
+            b"any",
+            rows::empty(benching::turns_or(rt, FEW)),
+        )?;
     }
+    Ok(())
 }
 
-fn show_far(size: &[u8], lines: &[u64], end: u64) {
-    if benching::asked(b"far", size) {
+fn show_far(rt: &(impl Env + Print), size: &[u8], lines: &[u64], end: u64) -> io::Result<()> {
+    if benching::asked(rt, b"far", size) {
         let mut out = [0u64; ROOM];
-        let turns = benching::turns_or(FEW);
+        let turns = benching::turns_or(rt, FEW);
         let sum = rows::far(clock(0, end), lines, &mut out, turns);
-        benching::line(b"far", size, sum);
+        benching::line(rt, b"far", size, sum)?;
     }
+    Ok(())
 }
 
 // Runs a row over the first n lines, if it is asked, and writes its line.
-fn show(row: Row, call: &[u8], size: &[u8], lines: &[u64], n: usize, frames: u64, few: u64) {
-    if benching::asked(call, size) {
+fn show(
+    rt: &(impl Env + Print),
+    row: Row,
+    call: &[u8],
+    size: &[u8],
+    lines: &[u64],
+    n: usize,
+    frames: u64,
+    few: u64,
+) -> io::Result<()> {
+    if benching::asked(rt, call, size) {
         let mut out = [0u64; ROOM];
-        let turns = benching::turns_or(few);
+        let turns = benching::turns_or(rt, few);
         let end = numbers::saturating_mul(n as u64, APART);
         let from = if end < 1000 { 0 } else { end - 1000 };
         let sum = rows::blocks_sum(
@@ -77,28 +97,35 @@ fn show(row: Row, call: &[u8], size: &[u8], lines: &[u64], n: usize, frames: u64
             &mut out,
             turns,
         );
-        benching::line(call, size, sum);
+        benching::line(rt, call, size, sum)?;
     }
+    Ok(())
 }
 
-fn block_rows(row: Row, call: &[u8], lines: &[u64], frames: u64) {
-    show(row, call, b"1000", lines, 1000, frames, FEW);
-    show(row, call, b"32768", lines, 32768, frames, 50);
-    show(row, call, b"65536", lines, 65536, frames, 50);
+fn block_rows(
+    rt: &(impl Env + Print),
+    row: Row,
+    call: &[u8],
+    lines: &[u64],
+    frames: u64,
+) -> io::Result<()> {
+    show(rt, row, call, b"1000", lines, 1000, frames, FEW)?;
+    show(rt, row, call, b"32768", lines, 32768, frames, 50)?;
+    show(rt, row, call, b"65536", lines, 65536, frames, 50)
 }
 
-fn all(lines: &[u64; LINES]) {
-    show_empty();
-    show_far(b"none", front(lines, 0), 1);
-    show_far(b"1000", front(lines, 1000), 0x100_0000_0000);
-    block_rows(Row::Cue, b"cue-64", lines, 64);
-    block_rows(Row::Cue, b"cue-512", lines, 512);
-    block_rows(Row::Tested, b"tested-64", lines, 64);
-    block_rows(Row::Tested, b"tested-512", lines, 512);
+fn all(rt: &(impl Env + Print), lines: &[u64; LINES]) -> io::Result<()> {
+    show_empty(rt)?;
+    show_far(rt, b"none", front(lines, 0), 1)?;
+    show_far(rt, b"1000", front(lines, 1000), 0x100_0000_0000)?;
+    block_rows(rt, Row::Cue, b"cue-64", lines, 64)?;
+    block_rows(rt, Row::Cue, b"cue-512", lines, 512)?;
+    block_rows(rt, Row::Tested, b"tested-64", lines, 64)?;
+    block_rows(rt, Row::Tested, b"tested-512", lines, 512)
 }
 
-fn main() {
+fn main(rt: HostRuntime) -> io::Result<()> {
     let mut lines = [0u64; LINES];
     rows::fill(&mut lines);
-    all(&lines);
+    all(&rt, &lines)
 }

@@ -21,7 +21,7 @@ pub const ROOM: usize = 4096;
 pub const APART: u64 = 93;
 
 // How a block is cued.
-#[derive(Drop)]
+#[derive(Clone, Copy)]
 pub enum Row {
     Cue,
     Tested,

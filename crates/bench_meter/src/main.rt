@@ -16,12 +16,16 @@
 // Rows that nobody asked by name make fewer turns, the larger the map. No number of turns is a
 // multiple of 64: after 64 turns the checksum has turned round, and answers that are spread evenly
 // would cancel out.
+#![tactic(auto)]
+
 mod rows;
 
 ghost use Rattle.std.specs.Prelude.{◌≡◌, ◌*◌, ◌≤◌, length};
 
 use benching::{INPUTS, maps};
 use rows::Row;
+use std::env::Env;
+use std::io;
 
 // How many bars, or beats, the questions are spread over.
 fn span(row: Row, points: u32) -> u64 {
@@ -33,66 +37,77 @@ fn span(row: Row, points: u32) -> u64 {
 }
 
 // Runs a row over the first points of the map, if it is asked, and writes its line.
-fn show(row: Row, call: &[u8], size: &[u8], map: &[u32], points: u32, few: u64)
+fn show(
+    rt: &(impl Env + Print),
+    row: Row,
+    call: &[u8],
+    size: &[u8],
+    map: &[u32],
+    points: u32,
+    few: u64,
+) -> io::Result<()>
     requires { 3 * points ≤ length map.now }
 {
-    if benching::asked(call, size) {
-        let turns = benching::turns_or(few);
+    if benching::asked(rt, call, size) {
+        let turns = benching::turns_or(rt, few);
         let mut questions = [0u32; INPUTS];
         maps::fill_spread(&mut questions, span(row, points));
         let words = 3 * points as usize;
         benching::line(
+            rt,
             call,
             size,
             rows::sum_of(row, &map[0..words], &questions, turns),
-        );
+        )?;
     }
+    Ok(())
 }
 
-fn start(size: &[u8], map: &[u32], points: u32, few: u64)
+fn start(rt: &(impl Env + Print), size: &[u8], map: &[u32], points: u32, few: u64) -> io::Result<()>
     requires { 3 * points ≤ length map.now }
 {
-    show(Row::BeatAtBar, b"beat_at_bar", size, map, points, few);
+    show(rt, Row::BeatAtBar, b"beat_at_bar", size, map, points, few)
 }
 
-fn count(size: &[u8], map: &[u32], points: u32, few: u64)
+fn count(rt: &(impl Env + Print), size: &[u8], map: &[u32], points: u32, few: u64) -> io::Result<()>
     requires { 3 * points ≤ length map.now }
 {
     show(
+        rt,
         Row::BarCountAtBeat,
         b"bar_count_at_beat",
         size,
         map,
         points,
         few,
-    );
+    )
 }
 
-fn starts(map: &[u32])
+fn starts(rt: &(impl Env + Print), map: &[u32]) -> io::Result<()>
     requires { length map.now ≡ 12288 }
 {
-    start(b"0", map, 0, 5000);
-    start(b"16", map, 16, 5000);
-    start(b"128", map, 128, 1000);
-    start(b"256", map, 256, 1000);
-    start(b"2048", map, 2048, 10);
-    start(b"4096", map, 4096, 5);
+    start(rt, b"0", map, 0, 5000)?;
+    start(rt, b"16", map, 16, 5000)?;
+    start(rt, b"128", map, 128, 1000)?;
+    start(rt, b"256", map, 256, 1000)?;
+    start(rt, b"2048", map, 2048, 10)?;
+    start(rt, b"4096", map, 4096, 5)
 }
 
-fn counts(map: &[u32])
+fn counts(rt: &(impl Env + Print), map: &[u32]) -> io::Result<()>
     requires { length map.now ≡ 12288 }
 {
-    count(b"0", map, 0, 5000);
-    count(b"16", map, 16, 5000);
-    count(b"128", map, 128, 200);
-    count(b"256", map, 256, 50);
-    count(b"2048", map, 2048, 1);
-    count(b"4096", map, 4096, 1);
+    count(rt, b"0", map, 0, 5000)?;
+    count(rt, b"16", map, 16, 5000)?;
+    count(rt, b"128", map, 128, 200)?;
+    count(rt, b"256", map, 256, 50)?;
+    count(rt, b"2048", map, 2048, 1)?;
+    count(rt, b"4096", map, 4096, 1)
 }
 
-fn main() {
+fn main(rt: HostRuntime) -> io::Result<()> {
     let map = maps::meter_words();
-    show(Row::Empty, b"empty", b"any", &map, 4096, 5000);
-    starts(&map);
-    counts(&map);
+    show(&rt, Row::Empty, b"empty", b"any", &map, 4096, 5000)?;
+    starts(&rt, &map)?;
+    counts(&rt, &map)
 }

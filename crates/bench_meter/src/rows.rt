@@ -4,7 +4,7 @@ use beats::Beat;
 use benching::{INPUTS, mixed};
 use meter::{BarAnswer, CountAnswer, Pickup};
 
-#[derive(Drop)]
+#[derive(Clone, Copy)]
 pub enum Row {
     Empty,
     BeatAtBar,

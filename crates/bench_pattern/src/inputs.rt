@@ -4,7 +4,7 @@ use benching::{START, next};
 // Four words a note of the largest list. A smaller one is the front of it.
 pub const WORDS: usize = 16384;
 
-#[derive(Drop)]
+#[derive(Clone, Copy)]
 pub enum Order {
     Sorted,
     Reversed,

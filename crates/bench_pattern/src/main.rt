@@ -23,6 +23,8 @@
 // Rows that nobody asked by name make fewer turns, the larger the list, and never a multiple of 64:
 // after 64 turns the checksum has turned round, and answers that are spread evenly would cancel
 // out.
+#![tactic(auto)]
+
 mod inputs;
 mod rows;
 
@@ -30,84 +32,106 @@ ghost use Rattle.std.specs.Prelude.{◌≡◌, ◌*◌, ◌≤◌, length};
 
 use inputs::{Order, WORDS};
 use rows::Row;
+use std::env::Env;
+use std::io;
 
 // Runs a row over the first notes of a list, if it is asked, and writes its line.
-fn show(row: Row, call: &[u8], size: &[u8], list: &[u32], notes: u32, few: u64)
+fn show(
+    rt: &(impl Env + Print),
+    row: Row,
+    call: &[u8],
+    size: &[u8],
+    list: &[u32],
+    notes: u32,
+    few: u64,
+) -> io::Result<()>
     requires { 4 * notes ≤ length list.now }
 {
-    if benching::asked(call, size) {
-        let turns = benching::turns_or(few);
+    if benching::asked(rt, call, size) {
+        let turns = benching::turns_or(rt, few);
         let mut lent = [0u32; WORDS];
         let words = 4 * notes as usize;
         benching::line(
+            rt,
             call,
             size,
             rows::sum_of(row, &list[0..words], notes, &mut lent, turns),
-        );
+        )?;
     }
+    Ok(())
 }
 
 // The rows of a call, for each size.
-fn sizes(row: Row, call: &[u8], list: &[u32])
+fn sizes(rt: &(impl Env + Print), row: Row, call: &[u8], list: &[u32]) -> io::Result<()>
     requires { length list.now ≡ 16384 }
 {
-    show(row, call, b"16", list, 16, 1000);
-    show(row, call, b"256", list, 256, 200);
-    show(row, call, b"4096", list, 4096, 30);
+    show(rt, row, call, b"16", list, 16, 1000)?;
+    show(rt, row, call, b"256", list, 256, 200)?;
+    show(rt, row, call, b"4096", list, 4096, 30)
 }
 
 // The rows of the calls that sort, over lists in each order. For the last one size more shows how
 // the cost grows.
-fn sorts(row: Row, sorted: &[u8], reversed: &[u8], random: &[u8]) {
+fn sorts(
+    rt: &(impl Env + Print),
+    row: Row,
+    sorted: &[u8],
+    reversed: &[u8],
+    random: &[u8],
+) -> io::Result<()> {
     let list = inputs::notes(Order::Sorted);
-    sizes(row, sorted, &list);
+    sizes(rt, row, sorted, &list)?;
     let list = inputs::notes(Order::Reversed);
-    sizes(row, reversed, &list);
+    sizes(rt, row, reversed, &list)?;
     let list = inputs::notes(Order::Random);
-    sizes(row, random, &list);
-    show(row, random, b"2048", &list, 2048, 30);
+    sizes(rt, row, random, &list)?;
+    show(rt, row, random, b"2048", &list, 2048, 30)
 }
 
 // The rows of the other calls.
-fn copies(list: &[u32])
+fn copies(rt: &(impl Env + Print), list: &[u32]) -> io::Result<()>
     requires { length list.now ≡ 16384 }
 {
-    show(Row::Empty, b"empty", b"any", list, 4096, 5000);
-    sizes(Row::Repeat, b"repeat", list);
-    sizes(Row::Concat, b"concat", list);
-    sizes(Row::Slice, b"slice", list);
-    sizes(Row::Stretch, b"stretch", list);
-    sizes(Row::Vel, b"vel", list);
-    sizes(Row::Gate, b"gate", list);
-    sizes(Row::Euclidean, b"euclidean", list);
-    sizes(Row::Tuplet, b"tuplet", list);
+    show(rt, Row::Empty, b"empty", b"any", list, 4096, 5000)?;
+    sizes(rt, Row::Repeat, b"repeat", list)?;
+    sizes(rt, Row::Concat, b"concat", list)?;
+    sizes(rt, Row::Slice, b"slice", list)?;
+    sizes(rt, Row::Stretch, b"stretch", list)?;
+    sizes(rt, Row::Vel, b"vel", list)?;
+    sizes(rt, Row::Gate, b"gate", list)?;
+    sizes(rt, Row::Euclidean, b"euclidean", list)?;
+    sizes(rt, Row::Tuplet, b"tuplet", list)
 }
 
-fn main() {
+fn main(rt: HostRuntime) -> io::Result<()> {
     let list = inputs::notes(Order::Random);
-    copies(&list);
+    copies(&rt, &list)?;
     sorts(
+        &rt,
         Row::Layer,
         b"layer-sorted",
         b"layer-reversed",
         b"layer-random",
-    );
+    )?;
     sorts(
+        &rt,
         Row::Rotate,
         b"rotate-sorted",
         b"rotate-reversed",
         b"rotate-random",
-    );
+    )?;
     sorts(
+        &rt,
         Row::Reverse,
         b"reverse-sorted",
         b"reverse-reversed",
         b"reverse-random",
-    );
+    )?;
     sorts(
+        &rt,
         Row::Quantize,
         b"quantize-sorted",
         b"quantize-reversed",
         b"quantize-random",
-    );
+    )
 }

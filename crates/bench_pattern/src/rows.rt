@@ -4,7 +4,7 @@ use crate::inputs::WORDS;
 use benching::mixed;
 use pattern::{Pattern, PatternAnswer};
 
-#[derive(Drop)]
+#[derive(Clone, Copy)]
 pub enum Row {
     Empty,
     Repeat,

@@ -3,7 +3,7 @@
 use benching::{INPUTS, mixed};
 use problems::ProblemsAnswer;
 
-#[derive(Drop)]
+#[derive(Clone, Copy)]
 pub enum Row {
     Empty,
     Meter,

@@ -5,7 +5,7 @@ ghost use Rattle.std.specs.Prelude.{◌≡◌, ◌<◌, length};
 use benching::{INPUTS, mixed};
 use tempo::TempoAnswer;
 
-#[derive(Drop)]
+#[derive(Clone, Copy)]
 pub enum Row {
     Empty,
     SecondsAt,

@@ -21,6 +21,8 @@
 // Rows that nobody asked by name make fewer turns, the larger the maps, and never a multiple of 64:
 // after 64 turns the checksum has turned round, and answers that are spread evenly would cancel
 // out.
+#![tactic(auto)]
+
 mod rows;
 
 ghost use Rattle.std.specs.Prelude.{◌≡◌, ◌≤◌, length};
@@ -29,6 +31,8 @@ use beats::Beat;
 use benching::{INPUTS, maps};
 use meter::Pickup;
 use rows::Row;
+use std::env::Env;
+use std::io;
 use transport::{LoopRange, PlayState, Transport};
 
 // The turns of a row over a transport alone.
@@ -49,17 +53,18 @@ fn clock(looping: LoopRange, pickup: Pickup) -> Transport {
 }
 
 // Runs a row over a transport alone, if it is asked, and writes its line.
-fn show_clock(row: Row, call: &[u8], size: &[u8]) {
-    if benching::asked(call, size) {
-        let turns = benching::turns_or(FEW);
+fn show_clock(rt: &(impl Env + Print), row: Row, call: &[u8], size: &[u8]) -> io::Result<()> {
+    if benching::asked(rt, call, size) {
+        let turns = benching::turns_or(rt, FEW);
         let mut questions = [0u32; INPUTS];
         maps::fill_spread(&mut questions, 4096);
         let t = clock(
             LoopRange::On(1000, 97000),
             Pickup::Present(Beat { num: 1, den: 1 }),
         );
-        benching::line(call, size, rows::clock_sum(row, t, &questions, turns));
+        benching::line(rt, call, size, rows::clock_sum(row, t, &questions, turns))?;
     }
+    Ok(())
 }
 
 // How many bars, or frames, the questions are spread over.
@@ -74,6 +79,7 @@ fn span(row: Row, points: u64) -> u64
 
 // Runs a row over the first points of the maps, if it is asked, and writes its line.
 fn show(
+    rt: &(impl Env + Print),
     row: Row,
     call: &[u8],
     size: &[u8],
@@ -83,15 +89,15 @@ fn show(
     tempos: &[u32],
     points: usize,
     few: u64,
-)
+) -> io::Result<()>
     requires points_bound { points ≤ 256 }
     requires words_len { length words.now ≡ 12288 }
     requires nums_len { length nums.now ≡ 1024 }
     requires dens_len { length dens.now ≡ 1024 }
     requires tempos_len { length tempos.now ≡ 1024 }
 {
-    if benching::asked(call, size) {
-        let turns = benching::turns_or(few);
+    if benching::asked(rt, call, size) {
+        let turns = benching::turns_or(rt, few);
         let mut questions = [0u32; INPUTS];
         maps::fill_spread(&mut questions, span(row, points as u64));
         let sum = rows::maps_sum(
@@ -104,64 +110,97 @@ fn show(
             &questions,
             turns,
         );
-        benching::line(call, size, sum);
+        benching::line(rt, call, size, sum)?;
     }
+    Ok(())
 }
 
-fn frame_rows(row: Row, call: &[u8], words: &[u32], nums: &[i64], dens: &[u32], tempos: &[u32])
+fn frame_rows(
+    rt: &(impl Env + Print),
+    row: Row,
+    call: &[u8],
+    words: &[u32],
+    nums: &[i64],
+    dens: &[u32],
+    tempos: &[u32],
+) -> io::Result<()>
     requires words_len { length words.now ≡ 12288 }
     requires nums_len { length nums.now ≡ 1024 }
     requires dens_len { length dens.now ≡ 1024 }
     requires tempos_len { length tempos.now ≡ 1024 }
 {
-    show(row, call, b"0", words, nums, dens, tempos, 0, 5000);
-    show(row, call, b"128", words, nums, dens, tempos, 128, 1000);
-    show(row, call, b"256", words, nums, dens, tempos, 256, 1000);
+    show(rt, row, call, b"0", words, nums, dens, tempos, 0, 5000)?;
+    show(rt, row, call, b"128", words, nums, dens, tempos, 128, 1000)?;
+    show(rt, row, call, b"256", words, nums, dens, tempos, 256, 1000)
 }
 
-fn position_rows(row: Row, call: &[u8], words: &[u32], nums: &[i64], dens: &[u32], tempos: &[u32])
+fn position_rows(
+    rt: &(impl Env + Print),
+    row: Row,
+    call: &[u8],
+    words: &[u32],
+    nums: &[i64],
+    dens: &[u32],
+    tempos: &[u32],
+) -> io::Result<()>
     requires words_len { length words.now ≡ 12288 }
     requires nums_len { length nums.now ≡ 1024 }
     requires dens_len { length dens.now ≡ 1024 }
     requires tempos_len { length tempos.now ≡ 1024 }
 {
-    show(row, call, b"0", words, nums, dens, tempos, 0, 5000);
-    show(row, call, b"128", words, nums, dens, tempos, 128, 200);
-    show(row, call, b"256", words, nums, dens, tempos, 256, 50);
+    show(rt, row, call, b"0", words, nums, dens, tempos, 0, 5000)?;
+    show(rt, row, call, b"128", words, nums, dens, tempos, 128, 200)?;
+    show(rt, row, call, b"256", words, nums, dens, tempos, 256, 50)
 }
 
-fn all(words: &[u32], nums: &[i64], dens: &[u32], tempos: &[u32])
+fn all(
+    rt: &(impl Env + Print),
+    words: &[u32],
+    nums: &[i64],
+    dens: &[u32],
+    tempos: &[u32],
+) -> io::Result<()>
     requires words_len { length words.now ≡ 12288 }
     requires nums_len { length nums.now ≡ 1024 }
     requires dens_len { length dens.now ≡ 1024 }
     requires tempos_len { length tempos.now ≡ 1024 }
 {
-    show_clock(Row::Empty, b"empty", b"any");
-    show_clock(Row::Advance, b"advance", b"loop");
-    show_clock(Row::Advanced, b"advanced", b"loop");
-    frame_rows(Row::FrameAtBar, b"frame_at_bar", words, nums, dens, tempos);
+    show_clock(rt, Row::Empty, b"empty", b"any")?;
+    show_clock(rt, Row::Advance, b"advance", b"loop")?;
+    show_clock(rt, Row::Advanced, b"advanced", b"loop")?;
     frame_rows(
+        rt,
+        Row::FrameAtBar,
+        b"frame_at_bar",
+        words,
+        nums,
+        dens,
+        tempos,
+    )?;
+    frame_rows(
+        rt,
         Row::PlacesFrameAtBar,
         b"places_frame_at_bar",
         words,
         nums,
         dens,
         tempos,
-    );
+    )?;
     position_rows(
+        rt,
         Row::PositionBars,
         b"position_bars",
         words,
         nums,
         dens,
         tempos,
-    );
+    )
 }
 
-fn main() {
+fn main(rt: HostRuntime) -> io::Result<()> {
     let words = maps::meter_words();
     let nums = maps::tempo_nums();
     let dens = maps::tempo_dens();
     let tempos = maps::tempo_bits();
-    all(&words, &nums, &dens, &tempos);
+    all(&rt, &words, &nums, &dens, &tempos)
 }

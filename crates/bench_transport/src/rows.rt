@@ -9,7 +9,7 @@ use timeline::tests::Refusal;
 use timeline::{FrameAnswer, PlaceAnswer, places};
 use transport::{Advance, Transport, change, playhead};
 
-#[derive(Drop)]
+#[derive(Clone, Copy)]
 pub enum Row {
     Empty,
     Advance,

@@ -2,7 +2,7 @@
 use beats::Beat;
 use benching::{INPUTS, START, next};
 
-#[derive(Drop)]
+#[derive(Clone, Copy)]
 pub enum Set {
     Small,
     Large,

@@ -18,75 +18,119 @@
 // beats are those that scores have: in lowest terms, with a numerator below 2^16 and a denominator
 // from 1 to 24 of straight notes and triplets. In each set one number in eight is below zero.
 // Tempos lie from 64 to 256, with a fraction; the rates are four that are in use.
+#![tactic(auto)]
+
 mod inputs;
 mod rows;
 
 use benching::INPUTS;
 use inputs::Set;
 use rows::Row;
+use std::env::Env;
+use std::io;
 
 // Runs a row, if it is asked, and writes its line.
 fn show(
+    rt: &(impl Env + Print),
     row: Row,
     call: &[u8],
     size: &[u8],
     nums: &[i64; INPUTS],
     dens: &[u32; INPUTS],
     turns: u64,
-) {
-    if benching::asked(call, size) {
-        benching::line(call, size, rows::sum_of(row, nums, dens, turns));
+) -> io::Result<()> {
+    if benching::asked(rt, call, size) {
+        benching::line(rt, call, size, rows::sum_of(row, nums, dens, turns))?;
     }
+    Ok(())
 }
 
-fn sum_rows(nums: &[i64; INPUTS], dens: &[u32; INPUTS], turns: u64) {
-    show(Row::CheckedAdd, b"checked_add", b"mixed", nums, dens, turns);
-    show(Row::Add, b"add", b"mixed", nums, dens, turns);
-}
-
-fn order_rows(nums: &[i64; INPUTS], dens: &[u32; INPUTS], turns: u64) {
-    show(Row::Cmp, b"cmp", b"mixed", nums, dens, turns);
-    show(Row::Order, b"order", b"mixed", nums, dens, turns);
-}
-
-fn frame_rows(nums: &[i64; INPUTS], dens: &[u32; INPUTS], turns: u64) {
+fn sum_rows(
+    rt: &(impl Env + Print),
+    nums: &[i64; INPUTS],
+    dens: &[u32; INPUTS],
+    turns: u64,
+) -> io::Result<()> {
     show(
+        rt,
+        Row::CheckedAdd,
+        b"checked_add",
+        b"mixed",
+        nums,
+        dens,
+        turns,
+    )?;
+    show(rt, Row::Add, b"add", b"mixed", nums, dens, turns)
+}
+
+fn order_rows(
+    rt: &(impl Env + Print),
+    nums: &[i64; INPUTS],
+    dens: &[u32; INPUTS],
+    turns: u64,
+) -> io::Result<()> {
+    show(rt, Row::Cmp, b"cmp", b"mixed", nums, dens, turns)?;
+    show(rt, Row::Order, b"order", b"mixed", nums, dens, turns)
+}
+
+fn frame_rows(
+    rt: &(impl Env + Print),
+    nums: &[i64; INPUTS],
+    dens: &[u32; INPUTS],
+    turns: u64,
+) -> io::Result<()> {
+    show(
+        rt,
         Row::BeatToFrames,
         b"beat_to_frames",
         b"mixed",
         nums,
         dens,
         turns,
-    );
-    show(Row::FrameOf, b"frame_of", b"mixed", nums, dens, turns);
+    )?;
+    show(rt, Row::FrameOf, b"frame_of", b"mixed", nums, dens, turns)
 }
 
-fn grid_rows(nums: &[i64; INPUTS], dens: &[u32; INPUTS], turns: u64) {
-    show(Row::CheckedAdd, b"checked_add", b"grid", nums, dens, turns);
-    show(Row::Cmp, b"cmp", b"grid", nums, dens, turns);
+fn grid_rows(
+    rt: &(impl Env + Print),
+    nums: &[i64; INPUTS],
+    dens: &[u32; INPUTS],
+    turns: u64,
+) -> io::Result<()> {
     show(
+        rt,
+        Row::CheckedAdd,
+        b"checked_add",
+        b"grid",
+        nums,
+        dens,
+        turns,
+    )?;
+    show(rt, Row::Cmp, b"cmp", b"grid", nums, dens, turns)?;
+    show(
+        rt,
         Row::BeatToFrames,
         b"beat_to_frames",
         b"grid",
         nums,
         dens,
         turns,
-    );
+    )
 }
 
-fn main() {
-    let turns = benching::turns();
+fn main(rt: HostRuntime) -> io::Result<()> {
+    let turns = benching::turns(&rt);
     let mut nums = [0i64; INPUTS];
     let mut dens = [0u32; INPUTS];
     inputs::fill(Set::Mixed, &mut nums, &mut dens);
-    show(Row::Empty, b"empty", b"mixed", &nums, &dens, turns);
-    sum_rows(&nums, &dens, turns);
-    order_rows(&nums, &dens, turns);
-    frame_rows(&nums, &dens, turns);
+    show(&rt, Row::Empty, b"empty", b"mixed", &nums, &dens, turns)?;
+    sum_rows(&rt, &nums, &dens, turns)?;
+    order_rows(&rt, &nums, &dens, turns)?;
+    frame_rows(&rt, &nums, &dens, turns)?;
     inputs::fill(Set::Grid, &mut nums, &mut dens);
-    grid_rows(&nums, &dens, turns);
+    grid_rows(&rt, &nums, &dens, turns)?;
     inputs::fill(Set::Small, &mut nums, &mut dens);
-    show(Row::New, b"new", b"small", &nums, &dens, turns);
+    show(&rt, Row::New, b"new", b"small", &nums, &dens, turns)?;
     inputs::fill(Set::Large, &mut nums, &mut dens);
-    show(Row::New, b"new", b"large", &nums, &dens, turns);
+    show(&rt, Row::New, b"new", b"large", &nums, &dens, turns)
 }

@@ -5,7 +5,7 @@ use beats::{Beat, BeatAnswer, FrameAnswer, OrderAnswer};
 use benching::{INPUTS, mixed};
 use numbers::exact::Order;
 
-#[derive(Drop)]
+#[derive(Clone, Copy)]
 pub enum Row {
     Empty,
     New,

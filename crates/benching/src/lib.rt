@@ -3,10 +3,13 @@
 //
 // `PROGRAM CALL SIZE TURNS` runs one row and writes `CALL SIZE CHECKSUM`. With no arguments a
 // program runs each of its rows a few turns: that is its list of rows, and what a check compares.
+#![tactic(auto)]
+
 ghost use Rattle.std.specs.Prelude.{◌≡◌, ◌+◌, ◌%◌};
 ghost use Rattle.benching.specs.Words.{next_of, mixed_of, place_of, fraction_word};
 
-use libc::STDOUT_FILENO;
+use std::env::Env;
+use std::io;
 
 pub mod maps;
 
@@ -17,6 +20,9 @@ pub const INPUTS: usize = 8192;
 
 // The turns of a row that nobody asked by name: each input twice.
 const FEW: u64 = 16384;
+
+// The bytes of the longest argument that is looked at: a longer one counts as empty.
+const LONGEST: usize = 4096;
 
 // Where a sequence of numbers starts: any number but 0.
 pub const START: u64 = 0x2545_f491_4f6c_dd1d;
@@ -86,19 +92,19 @@ fn number(s: &[u8]) -> u64 {
 }
 
 // Whether argument i is this word.
-fn is_argument(i: usize, word: &[u8]) -> bool {
-    let mut buf = io::buffer();
-    let n = os::arg(i, &mut buf);
-    check::same(&buf[..n], word)
+fn is_argument(rt: &impl Env, i: usize, word: &[u8]) -> bool {
+    let mut buf = [0u8; LONGEST];
+    let n = intake::argument(rt, i, &mut buf);
+    &buf[..n] == word
 }
 
 // Whether this row is to be run.
-pub fn asked(call: &[u8], size: &[u8]) -> bool {
-    if os::arg_count() < 3 {
+pub fn asked(rt: &impl Env, call: &[u8], size: &[u8]) -> bool {
+    if !intake::has_argument(rt, 2) {
         return true;
     }
-    if is_argument(1, call) {
-        is_argument(2, size)
+    if is_argument(rt, 1, call) {
+        is_argument(rt, 2, size)
     } else {
         false
     }
@@ -106,25 +112,23 @@ pub fn asked(call: &[u8], size: &[u8]) -> bool {
 
 // How often a row is to make its call: `few` times where nobody asked it by name, fewer than others
 // where a call of the original's is slow.
-pub fn turns_or(few: u64) -> u64 {
-    if os::arg_count() < 4 {
+pub fn turns_or(rt: &impl Env, few: u64) -> u64 {
+    if !intake::has_argument(rt, 3) {
         return few;
     }
-    let mut buf = io::buffer();
-    let n = os::arg(3, &mut buf);
+    let mut buf = [0u8; LONGEST];
+    let n = intake::argument(rt, 3, &mut buf);
     number(&buf[..n])
 }
 
-pub fn turns() -> u64 {
-    turns_or(FEW)
+pub fn turns(rt: &impl Env) -> u64 {
+    turns_or(rt, FEW)
 }
 
 // Writes the line of a row.
-pub fn line(call: &[u8], size: &[u8], sum: u64) {
-    io::write_all(STDOUT_FILENO, call);
-    io::write_all(STDOUT_FILENO, b" ");
-    io::write_all(STDOUT_FILENO, size);
-    io::write_all(STDOUT_FILENO, b" ");
-    io::print_hex(STDOUT_FILENO, sum, 16);
-    io::write_all(STDOUT_FILENO, b"\n");
+pub fn line(rt: &impl Print, call: &[u8], size: &[u8], sum: u64) -> io::Result<()> {
+    rt.write_all(call)?;
+    rt.write_all(b" ")?;
+    rt.write_all(size)?;
+    println!(rt; " {sum:016x}")
 }

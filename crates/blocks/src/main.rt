@@ -2,12 +2,15 @@
 // cued whole and again cut into blocks. The blocks' cues joined, the transport after the last, and
 // whether any wrapped or finished are to be the whole's. It prints what the runs came upon, and the
 // number of runs in which anything differs; a call that is refused is a difference too.
+#![tactic(auto)]
+
 mod cases;
 mod random;
 mod same;
 mod walk;
 
 use cues::{CueAnswer, CueReport};
+use std::io;
 use transport::Transport;
 use walk::Walk;
 
@@ -17,7 +20,7 @@ const RUNS: u64 = 100_000;
 // each frame has eight lines.
 pub const ROOM: usize = 102_272;
 
-#[derive(Drop)]
+#[derive(Clone, Copy)]
 struct Outcome {
     same: bool,
     wrapped: bool,
@@ -26,7 +29,7 @@ struct Outcome {
     cues: u64,
 }
 
-#[derive(Drop)]
+#[derive(Clone, Copy)]
 struct Tally {
     wraps: u64,
     finishes: u64,
@@ -112,12 +115,11 @@ fn run(r: &mut u64, whole: &mut [u64; ROOM], part: &mut [u64; ROOM]) -> Outcome 
     compared(answer, t, lines, sizes, whole, part)
 }
 
-fn number(n: u64, what: &[u8]) {
-    io::print_decimal(1, n);
-    io::write_all(1, what);
+fn number(rt: &impl Print, n: u64, what: &str) -> io::Result<()> {
+    print!(rt; "{n}{what}")
 }
 
-fn main() {
+fn main(rt: HostRuntime) -> io::Result<()> {
     let mut whole = [0u64; ROOM];
     let mut part = [0u64; ROOM];
     let mut r = benching::START;
@@ -133,10 +135,10 @@ fn main() {
         tally = counted(tally, run(&mut r, &mut whole, &mut part));
         left -= 1;
     }
-    number(RUNS, b" runs, ");
-    number(tally.blocks, b" blocks, ");
-    number(tally.cues, b" cues, ");
-    number(tally.wraps, b" wrapped, ");
-    number(tally.finishes, b" finished, ");
-    number(tally.differences, b" differences\n");
+    number(&rt, RUNS, " runs, ")?;
+    number(&rt, tally.blocks, " blocks, ")?;
+    number(&rt, tally.cues, " cues, ")?;
+    number(&rt, tally.wraps, " wrapped, ")?;
+    number(&rt, tally.finishes, " finished, ")?;
+    number(&rt, tally.differences, " differences\n")
 }

@@ -3,7 +3,7 @@ use crate::{ROOM, same};
 use cues::CueReport;
 use transport::Transport;
 
-#[derive(Drop)]
+#[derive(Clone, Copy)]
 pub struct Walk {
     // As the last block left it.
     pub transport: Transport,

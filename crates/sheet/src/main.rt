@@ -1,13 +1,16 @@
 // Prints the sheet of a score file: standard input to standard output. One byte more than the
 // longest score file is read, and a longer input is refused by that byte.
+#![tactic(auto)]
+
 use score::LONGEST;
+use std::io;
 
 const READ: usize = LONGEST + 1;
 
-fn main() {
+fn main(rt: HostRuntime) -> io::Result<()> {
     let mut bytes = [0u8; READ];
     let mut out = [0u8; 1024];
-    let n = io::read_full(0, &mut bytes);
+    let n = intake::read_full(&mut rt.stdin(), &mut bytes)?;
     let k = sheet_text::sheet_of(&bytes[..n], &mut out);
-    io::write_all(1, &out[..k]);
+    rt.write_all(&out[..k])
 }

@@ -1,6 +1,8 @@
-// What firmware links: the calls of a bar display over numbers and slices, for C and Rust. Each
-// answers 0, or the number of document 01 by which it refuses, with no lent word changed. The C
-// faces are in include/pulleybale.h. A clock is the eleven words of `clock_words`.
+// The calls of a bar display over numbers and slices. Each answers 0, or the number of document 01
+// by which it refuses, with no lent word changed. A clock is the eleven words of `clock_words`.
+// `stand_c` exports them to C.
+#![tactic(auto)]
+
 ghost use Rattle.std.specs.Prelude.{◌≡◌};
 ghost use Rattle.numbers.specs.Answers.{number, given};
 ghost use Rattle.timeline.specs.Readings.{number_of};
@@ -38,8 +40,7 @@ fn flags_of(wrapped: bool, finished: bool) -> u32
 }
 
 // How many bars have gone by at a beat.
-#[unsafe(no_mangle)]
-pub extern "C" fn pulleybale_count(
+pub fn pulleybale_count(
     meter: &[u32],
     beats: u32,
     pickup_num: i64,
@@ -64,8 +65,7 @@ pub extern "C" fn pulleybale_count(
 }
 
 // The beat at which a bar starts.
-#[unsafe(no_mangle)]
-pub extern "C" fn pulleybale_start(
+pub fn pulleybale_start(
     meter: &[u32],
     beats: u32,
     pickup_num: i64,
@@ -94,8 +94,7 @@ pub extern "C" fn pulleybale_start(
 }
 
 // The frame on which a bar starts.
-#[unsafe(no_mangle)]
-pub extern "C" fn pulleybale_frame(
+pub fn pulleybale_frame(
     clock: &[u64; WORDS],
     meter: &[u32],
     nums: &[i64],
@@ -119,8 +118,7 @@ pub extern "C" fn pulleybale_frame(
 }
 
 // The frames of the bars from 0 on, as many as there are lines.
-#[unsafe(no_mangle)]
-pub extern "C" fn pulleybale_fill_lines(
+pub fn pulleybale_fill_lines(
     clock: &[u64; WORDS],
     meter: &[u32],
     nums: &[i64],
@@ -139,8 +137,7 @@ pub extern "C" fn pulleybale_fill_lines(
 }
 
 // Let so many frames go by.
-#[unsafe(no_mangle)]
-pub extern "C" fn pulleybale_advance(clock: &mut [u64; WORDS], frames: u64, report: &mut u32) -> u32
+pub fn pulleybale_advance(clock: &mut [u64; WORDS], frames: u64, report: &mut u32) -> u32
     ensures value { result ≡ number (advanced_by clock.old frames).answer }
     ensures clock_after { clock.new ≡ clock_after clock.old (advanced_by clock.old frames) }
     ensures report_after { report.new ≡ given moves_flags (advanced_by clock.old frames).answer report.old }
@@ -159,8 +156,7 @@ pub extern "C" fn pulleybale_advance(clock: &mut [u64; WORDS], frames: u64, repo
 }
 
 // The same, with the cues: the time and the place of each bar line that sounds.
-#[unsafe(no_mangle)]
-pub extern "C" fn pulleybale_cues(
+pub fn pulleybale_cues(
     clock: &mut [u64; WORDS],
     lines: &[u64],
     frames: u64,

@@ -1,35 +1,31 @@
 // What is wrong with a text, told by a line: which line of the text, and why.
-use items::Reason;
+#![tactic(auto)]
 
-fn reason(fd: i32, reason: Reason) {
+use items::Reason;
+use std::io;
+
+fn reason(reason: Reason) -> &'static str {
     match reason {
-        Reason::Unknown => io::write_all(fd, b"the first word is not known\n"),
-        Reason::Words => io::write_all(fd, b"words are missing, or there are too many\n"),
-        Reason::NotNumber => io::write_all(fd, b"not a number from 0 to 4294967295\n"),
-        Reason::NotBeat => io::write_all(fd, b"not a beat: n or n/d\n"),
-        Reason::NotLowest => io::write_all(
-            fd,
-            b"the beat is not in lowest terms, or its denominator is 0\n",
-        ),
-        Reason::NotTempo => io::write_all(
-            fd,
-            b"not a tempo: a decimal whose digits are together below 16777216, at most ten behind the point, or 0x and eight hexadecimal digits\n",
-        ),
-        Reason::NotMeter => io::write_all(fd, b"not a meter: n/d\n"),
-        Reason::Twice => io::write_all(fd, b"said twice\n"),
-        Reason::ManyMeters => io::write_all(fd, b"over 256 meter points\n"),
-        Reason::ManyTempos => io::write_all(fd, b"over 1024 tempo points\n"),
-        Reason::NoRate => io::write_all(fd, b"rate is missing\n"),
-        Reason::NoBeats => io::write_all(fd, b"beats is missing\n"),
-        Reason::NoTempo => io::write_all(fd, b"tempo is missing\n"),
-        Reason::Unwritten => io::write_all(fd, b"the score cannot be written\n"),
-    };
+        Reason::Unknown => "the first word is not known",
+        Reason::Words => "words are missing, or there are too many",
+        Reason::NotNumber => "not a number from 0 to 4294967295",
+        Reason::NotBeat => "not a beat: n or n/d",
+        Reason::NotLowest => "the beat is not in lowest terms, or its denominator is 0",
+        Reason::NotTempo =>
+            "not a tempo: a decimal whose digits are together below 16777216, at most ten behind the point, or 0x and eight hexadecimal digits",
+        Reason::NotMeter => "not a meter: n/d",
+        Reason::Twice => "said twice",
+        Reason::ManyMeters => "over 256 meter points",
+        Reason::ManyTempos => "over 1024 tempo points",
+        Reason::NoRate => "rate is missing",
+        Reason::NoBeats => "beats is missing",
+        Reason::NoTempo => "tempo is missing",
+        Reason::Unwritten => "the score cannot be written",
+    }
 }
 
-// Writes the line to standard output (1) or standard error (2).
-pub fn wrong(fd: i32, line: usize, why: Reason) {
-    io::write_all(fd, b"line ");
-    io::print_decimal(fd, line as u64);
-    io::write_all(fd, b": ");
-    reason(fd, why);
+// Writes the line to standard output or standard error.
+pub fn wrong(to: &impl Print, line: usize, why: Reason) -> io::Result<()> {
+    let why = reason(why);
+    println!(to; "line {line}: {why}")
 }

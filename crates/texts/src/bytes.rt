@@ -1,33 +1,35 @@
 // The bytes of a file by hexadecimal digits, two a byte: written by words, and read.
 use score::LONGEST;
+use std::io;
 
 // The digits of the longest file.
 const MOST: usize = 2 * LONGEST;
 
 // A byte behind so many: four are a word, and eight words a line.
-fn behind(before: usize, byte: u8) {
+fn behind(rt: &impl Print, before: usize, byte: u8) -> io::Result<()> {
     if before % 32 == 0 {
         if before > 0 {
-            io::write_all(1, b"\n");
+            rt.write_all(b"\n")?;
         }
     } else if before % 4 == 0 {
-        io::write_all(1, b" ");
+        rt.write_all(b" ")?;
     }
-    io::print_hex(1, byte as u64, 2);
+    print!(rt; "{byte:02x}")
 }
 
-fn words(file: &[u8]) {
+fn words(rt: &impl Print, file: &[u8]) -> io::Result<()> {
     let mut k = 0;
     while k < file.len() {
-        behind(k, file[k]);
+        behind(rt, k, file[k])?;
         k += 1;
     }
+    Ok(())
 }
 
 // Writes the bytes of a file.
-pub fn write(file: &[u8]) {
-    words(file);
-    io::write_all(1, b"\n");
+pub fn write(rt: &impl Print, file: &[u8]) -> io::Result<()> {
+    words(rt, file)?;
+    rt.write_all(b"\n")
 }
 
 // The digit that a byte is, and 16 for one that is none.

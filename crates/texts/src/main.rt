@@ -11,11 +11,14 @@
 //   :sheet         its sheet
 //   :count BEAT    how many bars it takes to the beat
 //   : WORDS        nothing: a heading
+#![tactic(auto)]
+
 mod bytes;
 mod commands;
 
 use commands::part;
 use score::LONGEST;
+use std::io;
 
 // One byte more than the longest session.
 const READ: usize = 131073;
@@ -42,37 +45,47 @@ fn unended(text: &[u8]) -> &[u8] {
 }
 
 // The commands that write of the score at hand.
-fn said(letter: u8, word: &[u8], file: &[u8]) {
+fn said(rt: &impl Print, letter: u8, word: &[u8], file: &[u8]) -> io::Result<()> {
     match letter {
-        b'b' => bytes::write(file),
-        b't' => commands::text(file),
-        b's' => commands::sheet(file),
-        b'c' => commands::count(file, word),
-        _ => {}
+        b'b' => bytes::write(rt, file),
+        b't' => commands::text(rt, file),
+        b's' => commands::sheet(rt, file),
+        b'c' => commands::count(rt, file, word),
+        _ => Ok(()),
     }
 }
 
 // Those that make another file the score at hand, and the others.
-fn answer(line: &[u8], text: &[u8], file: &mut [u8; LONGEST], size: &mut usize) {
+fn answer(
+    rt: &impl Print,
+    line: &[u8],
+    text: &[u8],
+    file: &mut [u8; LONGEST],
+    size: &mut usize,
+) -> io::Result<()> {
     let n = *size;
     match letter(line) {
-        b'm' => commands::make(text, file, size),
-        b'u' => commands::make(unended(text), file, size),
-        b'l' => commands::make(behind(line, 6), file, size),
-        b'f' => bytes::read(behind(line, 6), file, size),
-        other => said(other, behind(line, 7), part(file, 0, n)),
+        b'm' => commands::make(rt, text, file, size),
+        b'u' => commands::make(rt, unended(text), file, size),
+        b'l' => commands::make(rt, behind(line, 6), file, size),
+        b'f' => {
+            bytes::read(behind(line, 6), file, size);
+            Ok(())
+        }
+        other => said(rt, other, behind(line, 7), part(file, 0, n)),
     }
 }
 
 // Takes the line that ends at a place: a command is answered, and the text begins anew behind it.
 fn turn(
+    rt: &impl Print,
     session: &[u8],
     text: &mut usize,
     line: &mut usize,
     end: usize,
     file: &mut [u8; LONGEST],
     size: &mut usize,
-) {
+) -> io::Result<()> {
     let from = *text;
     let start = *line;
     let words = part(session, start, end);
@@ -81,32 +94,33 @@ fn turn(
     }
     if letter(words) != 0 {
         *text = *line;
-        io::write_all(1, words);
-        io::write_all(1, b"\n");
-        answer(words, part(session, from, start), file, size);
+        rt.write_all(words)?;
+        rt.write_all(b"\n")?;
+        answer(rt, words, part(session, from, start), file, size)?;
     }
+    Ok(())
 }
 
-fn run(session: &[u8], file: &mut [u8; LONGEST]) {
+fn run(rt: &impl Print, session: &[u8], file: &mut [u8; LONGEST]) -> io::Result<()> {
     let mut text = 0;
     let mut line = 0;
     let mut size = 0;
     let mut place = 0;
     while place < session.len() {
         if session[place] == b'\n' {
-            turn(session, &mut text, &mut line, place, file, &mut size);
+            turn(rt, session, &mut text, &mut line, place, file, &mut size)?;
         }
         place += 1;
     }
+    Ok(())
 }
 
-fn main() {
+fn main(rt: HostRuntime) -> io::Result<()> {
     let mut session = [0u8; READ];
     let mut file = [0u8; LONGEST];
-    let n = io::read_full(0, &mut session);
+    let n = intake::read_full(&mut rt.stdin(), &mut session)?;
     if n == READ {
-        io::write_all(1, b"the session is longer than 131072 bytes\n");
-        return;
+        return rt.println("the session is longer than 131072 bytes");
     }
-    run(&session[..n], &mut file);
+    run(&rt, &session[..n], &mut file)
 }
