@@ -1,7 +1,7 @@
 /* Pulleybale: bars on frames, for the firmware of a bar display. C99.
  *
- * Link target/staticlib/libstand.a, which `rt staticlib stand` makes for x86-64. It needs C's memset
- * and nothing else. No call keeps anything, allocates, or calls back.
+ * Link target/staticlib/libstand.a, which tools/link makes for x86-64. It needs C's memset and nothing
+ * else. No call keeps anything, allocates, or calls back.
  *
  * Every call answers 0, or the number by which it refuses. A refusal changes nothing that is lent.
  *
