@@ -1,174 +1,125 @@
-// The next question of the input.
-ghost use Rattle.std.specs.Prelude.{◌≡◌, ◌+◌, ◌*◌, ◌≤◌, slice_index};
+// The questions of the input, and the loop that answers them.
+ghost use Rattle.std.specs.Prelude.{◌≤◌, ◌+◌, IsOk};
 
-use crate::writing::{Answers, unknown};
+use crate::writing::{Answers, flush, unknown};
 use crate::{CHUNK, MOST};
 use std::io;
-use std::io::Stdin;
+use std::io::{Stdin, Stdout};
+
+// Why there is no question to answer.
+#[derive(Drop)]
+enum Unread {
+    End,
+    // The input ends within the question.
+    Cut,
+    // A question of more words than the buffer has, which were let pass.
+    TooLarge,
+    Failed(io::Error),
+}
+
+impl From<io::Error> for Unread {
+    fn from(e: io::Error) -> Unread {
+        Unread::Failed(e)
+    }
+}
 
 // The input, a chunk at a time.
+// Stays: bytes with places beside them, since std's buffered readers take heap, and memory is fixed here.
 #[derive(Drop)]
-pub struct Questions {
+struct Questions {
     stdin: Stdin,
     chunk: [u8; CHUNK],
-    // Where the next word starts in the chunk.
+    // What is still to be read of the chunk.
     at: usize,
-    // How many of the chunk's bytes are still to be read.
-    left: usize,
+    end: usize,
+    ghost within: { at ≤ end × end ≤ 65536 },
 }
 
 impl Questions {
     // The questions of an input that nothing is read of yet.
-    pub fn new(stdin: Stdin) -> Questions {
+    fn new(stdin: Stdin) -> Questions {
         Questions {
             stdin,
             chunk: [0u8; CHUNK],
             at: 0,
-            left: 0,
+            end: 0,
         }
     }
-}
 
-fn wide(b: u8) -> u32
-    ensures { result ≡ b }
-{
-    b as u32
-}
-
-// The word of four bytes, the lowest first.
-fn join(a: u8, b: u8, c: u8, d: u8) -> u32
-    ensures { result ≡ a + 256 * b + 65536 * c + 16777216 * d }
-{
-    wide(a) + wide(b) * 0x100 + wide(c) * 0x1_0000 + wide(d) * 0x100_0000
-}
-
-// The word of four bytes from an index on, or 0 past the end.
-fn word_at(b: &[u8; CHUNK], at: usize) -> u32
-    ensures { at ≤ 65532 → result ≡ slice_index b.now at + 256 * slice_index b.now (at + 1) + 65536 * slice_index b.now (at + 2) + 16777216 * slice_index b.now (at + 3) }
-{
-    if at <= 65532 {
-        join(b[at], b[at + 1], b[at + 2], b[at + 3])
-    } else {
-        0
+    // The next four bytes, where so many are left.
+    fn first(&self) -> Result<[u8; 4], Unread>
+        ensures { IsOk result → self.now.at + 4 ≤ self.now.end }
+    {
+        self.chunk[self.at..self.end]
+            .first_chunk()
+            .copied()
+            .ok_or(Unread::Cut)
     }
-}
 
-#[derive(Clone, Copy)]
-enum Step {
-    Word(u32),
-    // Bytes are left, and fewer than four.
-    Short,
-    End,
-}
-
-// The next word.
-fn next(questions: &mut Questions) -> io::Result<Step> {
-    if questions.left == 0 {
-        questions.left = intake::read_full(&mut questions.stdin, &mut questions.chunk)?;
-        questions.at = 0;
-    }
-    let n = questions.left;
-    let i = questions.at;
-    if n == 0 {
-        return Ok(Step::End);
-    }
-    if n < 4 {
-        return Ok(Step::Short);
-    }
-    // a chunk is whole words, so a word that is there never starts so late
-    if i > 65532 {
-        return Ok(Step::Short);
-    }
-    questions.left = n - 4;
-    questions.at = i + 4;
-    Ok(Step::Word(word_at(&questions.chunk, i)))
-}
-
-// Puts a word into q, where it has the index.
-fn keep(q: &mut [u32; MOST], k: usize, w: u32) {
-    if k < MOST {
-        q[k] = w;
-    }
-}
-
-// Puts the next n words at the start of q; false where the input ends before.
-fn fill(questions: &mut Questions, q: &mut [u32; MOST], n: usize) -> io::Result<bool> {
-    let mut k = 0;
-    while k < n {
-        let Step::Word(w) = next(questions)? else {
-            return Ok(false);
-        };
-        keep(q, k, w);
-        k += 1;
-    }
-    Ok(true)
-}
-
-// Why there is no question to answer.
-#[derive(Clone, Copy)]
-pub enum Unread {
-    // A question of more words than the buffer has, which were let pass.
-    TooLarge,
-    // The input ends within the question.
-    Cut,
-    End,
-}
-
-// Lets the n words of a question pass, unless the input ends before.
-fn skip(questions: &mut Questions, n: usize) -> io::Result<Unread> {
-    let mut k = n;
-    while k > 0 {
-        let Step::Word(_) = next(questions)? else {
-            return Ok(Unread::Cut);
-        };
-        k -= 1;
-    }
-    Ok(Unread::TooLarge)
-}
-
-#[derive(Clone, Copy)]
-pub enum Asked {
-    // The op, and how many words of the buffer are its question.
-    Ask(u32, usize),
-    Not(Unread),
-}
-
-// The next question: its op, and its words at the start of q.
-pub fn question(questions: &mut Questions, q: &mut [u32; MOST]) -> io::Result<Asked> {
-    match next(questions)? {
-        Step::End => Ok(Asked::Not(Unread::End)),
-        Step::Short => Ok(Asked::Not(Unread::Cut)),
-        Step::Word(op) => behind(questions, q, op),
-    }
-}
-
-// What is behind the op: a count, and as many words.
-fn behind(questions: &mut Questions, q: &mut [u32; MOST], op: u32) -> io::Result<Asked> {
-    let Step::Word(count) = next(questions)? else {
-        return Ok(Asked::Not(Unread::Cut));
-    };
-    let n = count as usize;
-    if n > MOST {
-        return Ok(Asked::Not(skip(questions, n)?));
-    }
-    if fill(questions, q, n)? {
-        Ok(Asked::Ask(op, n))
-    } else {
-        Ok(Asked::Not(Unread::Cut))
-    }
-}
-
-// Answers what is no question; false where none can follow.
-pub fn no_question(why: Unread, out: &mut Answers) -> io::Result<bool> {
-    match why {
-        Unread::TooLarge => {
-            unknown(out)?;
-            Ok(true)
+    // The next word, its lowest byte first.
+    fn word(&mut self) -> Result<u32, Unread> {
+        if self.at == self.end {
+            let n = intake::read_full(&mut self.stdin, &mut self.chunk)?;
+            self.at = 0;
+            self.end = n;
         }
-        Unread::Cut => {
-            unknown(out)?;
-            Ok(false)
+        if self.at == self.end {
+            return Err(Unread::End);
         }
-        Unread::End => Ok(false),
+        let word = u32::from_le_bytes(self.first()?);
+        self.at += 4;
+        Ok(word)
     }
+
+    // The next word of a question that has begun.
+    fn word_within(&mut self) -> Result<u32, Unread> {
+        self.word().map_err(|why| match why {
+            Unread::End => Unread::Cut,
+            why => why,
+        })
+    }
+
+    // The next question: its op, and its words at the start of q.
+    fn question<'a>(&mut self, q: &'a mut [u32; MOST]) -> Result<(u32, &'a [u32]), Unread> {
+        let op = self.word()?;
+        let n = self.word_within()? as usize;
+        if n > MOST {
+            for _ in 0..n {
+                self.word_within()?;
+            }
+            return Err(Unread::TooLarge);
+        }
+        let words = &mut q[..n];
+        for word in words.iter_mut() {
+            *word = self.word_within()?;
+        }
+        Ok((op, words))
+    }
+}
+
+// Answers each question of the input, by its op and its words, and what is no question by its line.
+// Nothing says that the input ends, so the loop counts its turns up to a number that no run uses up.
+pub fn answer_all<F: FnMut(u32, &[u32], &mut Answers) -> io::Result<()>>(
+    stdin: Stdin,
+    stdout: Stdout,
+    mut answer: F,
+) -> io::Result<()>
+    requires { F.IsAlwaysCallable answer }
+{
+    let mut questions = Questions::new(stdin);
+    let mut out = Answers::new(stdout);
+    let mut q = [0u32; MOST];
+    for _ in 0..u64::MAX {
+        match questions.question(&mut q) {
+            Ok((op, words)) => answer(op, words, &mut out)?,
+            Err(Unread::TooLarge) => unknown(&mut out)?,
+            Err(Unread::Cut) => {
+                unknown(&mut out)?;
+                break;
+            }
+            Err(Unread::End) => break,
+            Err(Unread::Failed(e)) => return Err(e),
+        }
+    }
+    flush(&mut out)
 }

@@ -2,11 +2,12 @@
 ghost use Rattle.std.specs.Prelude.{◌<◌};
 
 use crate::HELD;
-use crate::refusals::OFF_GRID;
+use numbers::Refusal;
 use std::io;
 use std::io::{Print, Stdout};
 
 // The output, a block at a time.
+// Stays: bytes with a count beside them, since std's buffered writers take heap, and memory is fixed here.
 #[derive(Drop)]
 pub struct Answers {
     stdout: Stdout,
@@ -84,6 +85,14 @@ pub fn more(out: &mut Answers, x: u64) -> io::Result<()> {
     first(out, x)
 }
 
+// The numbers of a list, behind what the line has.
+pub fn more_all<T: Copy + Into<u64>>(out: &mut Answers, list: &[T]) -> io::Result<()> {
+    for x in list {
+        more(out, (*x).into())?;
+    }
+    Ok(())
+}
+
 pub fn end_line(out: &mut Answers) -> io::Result<()> {
     put_byte(out, b'\n')
 }
@@ -94,37 +103,54 @@ pub fn unknown(out: &mut Answers) -> io::Result<()> {
     end_line(out)
 }
 
-// The line of a refusal that has no facts and hands nothing back.
-pub fn refused(out: &mut Answers, number: u64) -> io::Result<()> {
-    first(out, number)?;
+// What a line has of a refusal: its number, and of 7 what is off the grid, the note's place, and the
+// value as it was given.
+pub fn refusal(out: &mut Answers, why: Refusal) -> io::Result<()> {
+    first(out, u64::from(u32::from(why)))?;
+    if let Refusal::OffGrid(miss) = why {
+        more(out, u64::from(u32::from(miss.part)))?;
+        more(out, miss.place as u64)?;
+        more(out, u64::from(miss.value))?;
+    }
+    Ok(())
+}
+
+// What a line has of an answer: 0 and what `put` writes of its value, or the refusal.
+pub fn answered<A: Drop, F: FnOnce(&mut Answers, A) -> io::Result<()>>(
+    out: &mut Answers,
+    answer: Result<A, Refusal>,
+    put: F,
+) -> io::Result<()>
+    requires { F.IsAlwaysCallable put }
+{
+    match answer {
+        Ok(value) => {
+            first(out, 0)?;
+            put(out, value)
+        }
+        Err(why) => refusal(out, why),
+    }
+}
+
+// The line of an answer that hands nothing back; of what is no question where there is none.
+pub fn answer_line<A: Drop, F: FnOnce(&mut Answers, A) -> io::Result<()>>(
+    out: &mut Answers,
+    answer: Option<Result<A, Refusal>>,
+    put: F,
+) -> io::Result<()>
+    requires { F.IsAlwaysCallable put }
+{
+    match answer {
+        Some(answer) => {
+            answered(out, answer, put)?;
+            end_line(out)
+        }
+        None => unknown(out),
+    }
+}
+
+// The line of a refusal that hands nothing back.
+pub fn refused(out: &mut Answers, why: Refusal) -> io::Result<()> {
+    refusal(out, why)?;
     end_line(out)
-}
-
-// The number and the facts of refusal 7: what is off the grid (0 bars, 1 step, 2 len, 3 beat), the
-// note's place, and the value as it was given.
-pub fn off_grid(out: &mut Answers, what: u64, place: u64, value: u64) -> io::Result<()> {
-    first(out, OFF_GRID)?;
-    more(out, what)?;
-    more(out, place)?;
-    more(out, value)
-}
-
-fn longer(w: u32) -> u64 {
-    w as u64
-}
-
-// The elements of a lent output, behind what the line has.
-pub fn more_u32s(out: &mut Answers, s: &[u32]) -> io::Result<()> {
-    for x in s {
-        more(out, longer(*x))?;
-    }
-    Ok(())
-}
-
-// The elements of a lent output, behind what the line has.
-pub fn more_u64s(out: &mut Answers, s: &[u64]) -> io::Result<()> {
-    for x in s {
-        more(out, *x)?;
-    }
-    Ok(())
 }

@@ -1,11 +1,10 @@
 -- What the words of a question are as a Pickup, a Transport and maps. A word past the question's end counts as 0.
-use Rattle.std.specs.Prelude.{ℕ, ◌+◌, Bool, cond, ◌&&◌, List, leb, eqb, length, get_or}
+use Rattle.std.specs.Prelude.{ℕ, ◌+◌, Bool, cond, ◌&&◌, List, leb, eqb, length, get_or, Option, Some, None}
 use Rattle.std.specs.Float.{binary32}
 use Rattle.std.specs.Float.Ieee.{of_bits}
 use Rattle.asking.specs.Fields.{u64_at, beat_at}
 use Rattle.asking.specs.Lists.{past_of, past_words, past_longs}
-use Rattle.meter.specs.declared.Pickup.{Pickup}
-use Rattle.meter.specs.declared.Pickup.TheVariants.{Absent, Present}
+use Rattle.beats.specs.declared.Beat.{Beat}
 use Rattle.transport.specs.Words.{state_of, loop_of}
 use Rattle.transport.specs.declared.LoopRange.{LoopRange}
 use Rattle.transport.specs.declared.Transport.{Transport}
@@ -15,11 +14,11 @@ abbrev pub flag_at : List ℕ → ℕ → Bool
 flag_at q at = leb (get_or q at 0) 1
 
 -- a flag for absent or present, then a Beat
-abbrev pub pickup_at : List ℕ → ℕ → Pickup
-pickup_at q at = cond (eqb (get_or q at 0) 0) Absent (Present (beat_at q (past_of (length q) at 1)))
+abbrev pub pickup_at : List ℕ → ℕ → Option Beat
+pickup_at q at = cond (eqb (get_or q at 0) 0) None (Some (beat_at q (past_of (length q) at 1)))
 
 -- a flag for off or on, then the start and the end
-abbrev pub loop_at : List ℕ → ℕ → LoopRange
+abbrev pub loop_at : List ℕ → ℕ → Option LoopRange
 loop_at q at = loop_of (get_or q at 0) (u64_at q (at + 1)) (u64_at q (at + 3))
 
 -- whether the first 17 words are a transport: the state is at most 2, and the loop's and the pickup's flag at most 1

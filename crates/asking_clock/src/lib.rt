@@ -10,7 +10,7 @@ mod writing;
 
 pub use maps::{meter_ends, past_meter, past_tempo};
 pub use transports::{is_flag, is_transport, pickup_at, transport_of};
-pub use writing::{changed_line, more_transport, transport_line};
+pub use writing::{handed_line, more_transport};
 
 // The words of a transport, which is the first of what a question asks.
 pub const TRANSPORT: usize = 17;

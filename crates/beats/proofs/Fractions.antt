@@ -2,10 +2,11 @@
 use Rattle.std.proofs.Common.{◌≡◌, ℕ, ◌+◌, ◌*◌, ◌<◌, ◌≤◌, true, false, ◌&&◌, eqb, ℤ, pos, ◌+ℤ◌, ◌*ℤ◌, sym, refl, ap, ◌∙◌, le_trans, le_of_eq, add-le-add, mul-le-mul_right, mul_assoc, mul-le-mul, mul-le-mul_left, mul-pos, mul_right_comm, le_of_mul-le-mul_right, arith, le-leb}
 use native.Mathlib.Nat.{le_of_dvd}
 use lib.Signed.{lt_z}
-use Rattle.numbers.specs.declared.exact.Order.{Order}
-use Rattle.numbers.specs.declared.exact.Order.TheVariants.{Less, Equal, Greater}
+use Rattle.std.specs.declared.cmp.Ordering.{Ordering}
+use Rattle.std.specs.Ordering.{is_lt}
+use Rattle.std.specs.declared.cmp.Ordering.TheVariants.{Less, Equal, Greater}
 use Rattle.numbers.specs.Answers.{accepted}
-use Rattle.numbers.proofs.Laws.{cases, not_both, factor_zero, up, down, natural, up_times, down_times, sum_times, gcd_of_zero, is_less, less_is, turned}
+use Rattle.numbers.proofs.Laws.{cases, not_both, factor_zero, up, down, natural, up_times, down_times, sum_times, gcd_of_zero, less_is, turned}
 use Rattle.beats.specs.declared.Beat.{Beat}
 use Rattle.beats.specs.Beats.{new_beat, is_beat, zero_beat}
 use Rattle.beats.specs.Sums.{fitted, add_beats, mul_beat, sum_of, order_of_beats, below_beat}
@@ -53,19 +54,19 @@ module _ (a b : Beat) where
 -- ---- the order
 
 pub below_values : (a b : Beat) (x y : ℤ) (d : ℕ) → 0 < a.den → 0 < b.den → 0 < d → Worth a x d → Worth b y d → below_beat a b ≡ lt_z x y
-below_values a b x y d p q h v w = sym (below_is a b) ∙ ap is_less (order_values a b x y d p q h v w) ∙ less_is x y
+below_values a b x y d p q h v w = sym (below_is a b) ∙ ap is_lt (order_values a b x y d p q h v w) ∙ less_is x y
 
 pub below_same : (a : Beat) → below_beat a a ≡ false
-below_same a = sym (below_is a a) ∙ ap is_less (order_same a)
+below_same a = sym (below_is a a) ∙ ap is_lt (order_same a)
 
 -- where c is not below a, and a not below b, c is not below b
 pub not_below : (a b c : Beat) → is_beat a ≡ true → is_beat b ≡ true → is_beat c ≡ true → below_beat c a ≡ false → below_beat a b ≡ false → below_beat c b ≡ false
 not_below a b c p q r s t = cases (below_beat c b) (λ u. not_both (below_beat c a) (by_case (order_of_beats a b) refl u) s) (λ u. u)
   where
-    by_case : (o : Order) → order_of_beats a b ≡ o → below_beat c b ≡ true → below_beat c a ≡ true
-    by_case Less e u = not_both (below_beat a b) (sym (below_is a b) ∙ ap is_less e) t
+    by_case : (o : Ordering) → order_of_beats a b ≡ o → below_beat c b ≡ true → below_beat c a ≡ true
+    by_case Less e u = not_both (below_beat a b) (sym (below_is a b) ∙ ap is_lt e) t
     by_case Equal e u = ap (below_beat c) (order_equal a b p q e) ∙ u
-    by_case Greater e u = below_trans c b a (beat_above c r) (beat_above b q) (beat_above a p) u (sym (below_is b a) ∙ ap is_less (order_exchanged a b ∙ ap turned e))
+    by_case Greater e u = below_trans c b a (beat_above c r) (beat_above b q) (beat_above a p) u (sym (below_is b a) ∙ ap is_lt (order_exchanged a b ∙ ap turned e))
 
 -- ---- operations that are not refused
 

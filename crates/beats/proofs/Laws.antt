@@ -23,5 +23,5 @@ pub use Rattle.beats.proofs.Ordering.{sum_order, scale_order}
 pub use Rattle.beats.proofs.Fractions.{value_forward, zero_beat_lem, sum_beat, sum_is, sum_has, below_values, below_same, not_below}
 -- a multiple and a sum of beats that are not below 0 are accepted within the limits
 pub use Rattle.beats.proofs.Fractions.{Is, is_same, scaled, added}
+
 -- no two cases of an answer read alike
-pub use Rattle.beats.proofs.Readings.{beats_apart, orders_apart, floats_apart, frames_apart, steps_apart}

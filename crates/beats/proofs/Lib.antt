@@ -5,5 +5,4 @@ pub mod Grid
 pub mod Values
 pub mod Ordering
 pub mod Fractions
-pub mod Readings
 pub mod Laws

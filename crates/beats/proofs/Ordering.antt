@@ -2,11 +2,12 @@
 use Rattle.std.proofs.Common.{◌≡◌, ℕ, ◌*◌, ◌<◌, Bool, true, ℤ, pos, ◌+ℤ◌, ◌-ℤ◌, ◌*ℤ◌, sym, ap, ◌∙◌, subst, mul_assoc, mul_comm, mul-pos, mul_left_comm}
 use lib.Signed.{lt_z}
 use lib.Ieee.Bits.{is_true}
-use Rattle.numbers.specs.declared.exact.Order.{Order}
-use Rattle.numbers.specs.declared.exact.Order.TheVariants.{Equal}
+use Rattle.std.specs.declared.cmp.Ordering.{Ordering}
+use Rattle.std.specs.Ordering.{is_lt}
+use Rattle.std.specs.declared.cmp.Ordering.TheVariants.{Equal}
 use Rattle.numbers.specs.Answers.{accepted}
 use Rattle.numbers.specs.Exacts.{order_of}
-use Rattle.numbers.proofs.Laws.{holds, gap_times, lt_trans, sums_apart, is_less, less_is, equal_only, same_equal, turned, exchanged, order_times}
+use Rattle.numbers.proofs.Laws.{holds, gap_times, lt_trans, sums_apart, less_is, equal_only, same_equal, turned, exchanged, order_times}
 use Rattle.beats.specs.declared.Beat.{Beat}
 use Rattle.beats.specs.Beats.{is_beat}
 use Rattle.beats.specs.Sums.{add_beats, mul_beat, order_of_beats, below_beat}
@@ -17,7 +18,7 @@ use Rattle.beats.proofs.Values.{cross, own_value, own_value_left, sum_value, sca
 
 -- ---- a total order
 
-pub below_is : (a b : Beat) → is_less (order_of_beats a b) ≡ below_beat a b
+pub below_is : (a b : Beat) → is_lt (order_of_beats a b) ≡ below_beat a b
 below_is a b = less_is (a.num *ℤ pos b.den) (b.num *ℤ pos a.den)
 
 pub order_same : (a : Beat) → order_of_beats a a ≡ Equal
@@ -75,8 +76,8 @@ below_trans a b c p q r s t =
     (holds (lt_z x y) (sym (by (order_values a b x y (all a b c) p q h (first_value a b c) (second_value a b c)) (below_is a b) (less_is x y)) ∙ s))
     (holds (lt_z y z) (sym (by (order_values b c y z (all a b c) q r h (second_value a b c) (third_value a b c)) (below_is b c) (less_is y z)) ∙ t)))
   where
-    by : {o u : Order} {s t : Bool} → o ≡ u → is_less o ≡ s → is_less u ≡ t → s ≡ t
-    by e f g = sym f ∙ ap is_less e ∙ g
+    by : {o u : Ordering} {s t : Bool} → o ≡ u → is_lt o ≡ s → is_lt u ≡ t → s ≡ t
+    by e f g = sym f ∙ ap is_lt e ∙ g
 
 -- ---- sums and multiples keep the order
 

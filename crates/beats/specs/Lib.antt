@@ -2,5 +2,4 @@ pub mod Beats
 pub mod Sums
 pub mod Frames
 pub mod Steps
-pub mod Readings
 pub mod Values

@@ -1,6 +1,6 @@
 -- Sums, differences, multiples and the order of beats, by exact products.
 use Rattle.std.specs.Prelude.{ℕ, ◌*◌, Bool, cond, ◌&&◌, [], ℤ, pos, ◌+ℤ◌, ◌-ℤ◌, ◌*ℤ◌, int_lt, nat_le}
-use Rattle.numbers.specs.declared.exact.Order.{Order}
+use Rattle.std.specs.declared.cmp.Ordering.{Ordering}
 use Rattle.numbers.specs.Answers.{Answer, accepted, refused}
 use Rattle.numbers.specs.Signs.{fits_i64}
 use Rattle.numbers.specs.Exacts.{order_of}
@@ -36,7 +36,7 @@ mul_beat a num den = fitted (a.num *ℤ num) (a.den * den)
 -- ---- the order
 
 -- the sign of a's cross product less b's
-abbrev pub order_of_beats : Beat → Beat → Order
+abbrev pub order_of_beats : Beat → Beat → Ordering
 order_of_beats a b = order_of (a.num *ℤ pos b.den -ℤ b.num *ℤ pos a.den)
 
 -- a's cross product is less than b's
@@ -54,7 +54,7 @@ sub_answer a b = if_beats a b (sub_beats a b)
 abbrev pub mul_answer : Beat → ℤ → ℕ → Answer Beat
 mul_answer a num den = if_beat a (mul_beat a num den)
 
-abbrev pub order_answer : Beat → Beat → Answer Order
+abbrev pub order_answer : Beat → Beat → Answer Ordering
 order_answer a b = if_beats a b (accepted (order_of_beats a b))
 
 -- what the bar walks make of an answer: (2^63 - 1)/1 for a refusal

@@ -23,9 +23,7 @@ fn float_near(n: i64) -> f64
 pub fn float_of(beat: Beat) -> f64
     ensures { result ≡ beat_float beat.num beat.den }
 {
-    let num = beat.num;
-    let den = beat.den;
-    float_near(num) / (den as f64)
+    float_near(beat.num) / (beat.den as f64)
 }
 
 // beat * 60 / tempo.

@@ -15,8 +15,7 @@
 
 mod rows;
 
-use meter::Pickup;
-use rows::{APART, LINES, ROOM, Row};
+use rows::{APART, LINES, ROOM};
 use std::env::Env;
 use std::io;
 use transport::{LoopRange, PlayState, Transport};
@@ -27,101 +26,86 @@ const FEW: u64 = 5000;
 
 // A transport that stands at a frame and plays in a loop from frame 0 up to another.
 fn clock(position: u64, end: u64) -> Transport {
-    let looping = LoopRange::On(0, end);
-    let pickup = Pickup::Absent;
-    let state = PlayState::Playing;
     Transport {
         sample_rate: 48000,
         bpm: 120.0f32,
         beats_per_bar: 4,
-        length: 0xffff_ffff_ffff_ffff,
+        length: u64::MAX,
         position,
-        state,
-        looping,
-        pickup,
+        state: PlayState::Playing,
+        looping: Some(LoopRange { start: 0, end }),
+        pickup: None,
     }
 }
 
-// The first n lines; all of them where there are fewer.
-fn front(lines: &[u64], n: usize) -> &[u64] {
-    if n > lines.len() {
-        return lines;
-    }
-    let a = 0;
-    &lines[a..n]
-}
-
-fn show_empty(rt: &(impl Env + Print)) -> io::Result<()> {
-    if benching::asked(rt, b"empty", b"any") {
-        benching::line(
-            rt,
-            b"empty",
-            b"any",
-            rows::empty(benching::turns_or(rt, FEW)),
-        )?;
-    }
-    Ok(())
-}
-
-fn show_far(rt: &(impl Env + Print), size: &[u8], lines: &[u64], end: u64) -> io::Result<()> {
-    if benching::asked(rt, b"far", size) {
+// Frames that go by without end, over the first n lines in a loop.
+fn far<R: Env + Print>(rt: &R, size: &str, lines: &[u64], end: u64) -> io::Result<()> {
+    benching::row(rt, "far", size, FEW, |turns| {
         let mut out = [0u64; ROOM];
-        let turns = benching::turns_or(rt, FEW);
-        let sum = rows::far(clock(0, end), lines, &mut out, turns);
-        benching::line(rt, b"far", size, sum)?;
-    }
-    Ok(())
+        rows::far(clock(0, end), lines, &mut out, turns)
+    })
 }
 
-// Runs a row over the first n lines, if it is asked, and writes its line.
-fn show(
-    rt: &(impl Env + Print),
-    row: Row,
-    call: &[u8],
-    size: &[u8],
+// The checksum of so many turns, from 1,000 frames before the loop's end.
+fn sum_of<F: Fn(Transport, &[u64], u64, &mut [u64; ROOM], u64) -> u64>(
+    sum: &F,
     lines: &[u64],
-    n: usize,
+    frames: u64,
+    turns: u64,
+) -> u64
+    requires { F.IsAlwaysCallable sum.now }
+{
+    let mut out = [0u64; ROOM];
+    let end = (lines.len() as u64).saturating_mul(APART);
+    let t = clock(end.saturating_sub(1000), end);
+    sum(t, lines, frames, &mut out, turns)
+}
+
+// Runs a row over so many lines, if it is asked, and writes its line: `sum` cues so many blocks.
+fn block<R: Env + Print, F: Fn(Transport, &[u64], u64, &mut [u64; ROOM], u64) -> u64>(
+    rt: &R,
+    call: &str,
+    size: &str,
+    lines: &[u64],
     frames: u64,
     few: u64,
-) -> io::Result<()> {
-    if benching::asked(rt, call, size) {
-        let mut out = [0u64; ROOM];
-        let turns = benching::turns_or(rt, few);
-        let end = numbers::saturating_mul(n as u64, APART);
-        let from = if end < 1000 { 0 } else { end - 1000 };
-        let sum = rows::blocks_sum(
-            row,
-            clock(from, end),
-            front(lines, n),
-            frames,
-            &mut out,
-            turns,
-        );
-        benching::line(rt, call, size, sum)?;
-    }
-    Ok(())
+    sum: &F,
+) -> io::Result<()>
+    requires { F.IsAlwaysCallable sum.now }
+{
+    benching::row(
+        rt,
+        call,
+        size,
+        few,
+        |turns| sum_of(sum, lines, frames, turns),
+    )
 }
 
-fn block_rows(
-    rt: &(impl Env + Print),
-    row: Row,
-    call: &[u8],
-    lines: &[u64],
+fn blocks<R: Env + Print, F: Fn(Transport, &[u64], u64, &mut [u64; ROOM], u64) -> u64>(
+    rt: &R,
+    call: &str,
+    lines: &[u64; LINES],
     frames: u64,
-) -> io::Result<()> {
-    show(rt, row, call, b"1000", lines, 1000, frames, FEW)?;
-    show(rt, row, call, b"32768", lines, 32768, frames, 50)?;
-    show(rt, row, call, b"65536", lines, 65536, frames, 50)
+    sum: F,
+) -> io::Result<()>
+    requires { F.IsAlwaysCallable sum }
+{
+    block(rt, call, "1000", &lines[..1000], frames, FEW, &sum)?;
+    block(rt, call, "32768", &lines[..32768], frames, 50, &sum)?;
+    block(rt, call, "65536", lines, frames, 50, &sum)
 }
 
-fn all(rt: &(impl Env + Print), lines: &[u64; LINES]) -> io::Result<()> {
-    show_empty(rt)?;
-    show_far(rt, b"none", front(lines, 0), 1)?;
-    show_far(rt, b"1000", front(lines, 1000), 0x100_0000_0000)?;
-    block_rows(rt, Row::Cue, b"cue-64", lines, 64)?;
-    block_rows(rt, Row::Cue, b"cue-512", lines, 512)?;
-    block_rows(rt, Row::Tested, b"tested-64", lines, 64)?;
-    block_rows(rt, Row::Tested, b"tested-512", lines, 512)
+fn all<R: Env + Print>(rt: &R, lines: &[u64; LINES]) -> io::Result<()> {
+    benching::row(rt, "empty", "any", FEW, |turns| {
+        benching::checksum(turns, |i| i % 8192)
+    })?;
+    far(rt, "none", &lines[..0], 1)?;
+    far(rt, "1000", &lines[..1000], 0x100_0000_0000)?;
+    blocks(rt, "cue-64", lines, 64, rows::cue)?;
+    blocks(rt, "cue-512", lines, 512, rows::cue)?;
+    blocks(rt, "tested-64", lines, 64, rows::tested)?;
+    blocks(rt, "tested-512", lines, 512, rows::tested)
 }
 
 fn main(rt: HostRuntime) -> io::Result<()> {

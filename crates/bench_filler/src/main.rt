@@ -18,10 +18,10 @@ mod rows;
 ghost use Rattle.std.specs.Prelude.{◌≡◌, ◌≤◌, length};
 
 use benching::maps;
-use meter::Pickup;
+use rows::Maps;
 use std::env::Env;
 use std::io;
-use transport::{LoopRange, PlayState, Transport};
+use transport::{PlayState, Transport};
 
 // The most lines of a row.
 const LINES: usize = 65536;
@@ -31,134 +31,37 @@ const FEW: u64 = 5000;
 
 // A transport that plays from frame 0.
 fn clock() -> Transport {
-    let looping = LoopRange::Off;
-    let pickup = Pickup::Absent;
-    let state = PlayState::Playing;
     Transport {
         sample_rate: 48000,
         bpm: 120.0f32,
         beats_per_bar: 4,
-        length: 0xffff_ffff_ffff_ffff,
+        length: u64::MAX,
         position: 0,
-        state,
-        looping,
-        pickup,
+        state: PlayState::Playing,
+        looping: None,
+        pickup: None,
     }
-}
-
-fn show_empty(rt: &(impl Env + Print)) -> io::Result<()> {
-    if benching::asked(rt, b"empty", b"any") {
-        benching::line(
-            rt,
-            b"empty",
-            b"any",
-            rows::empty(benching::turns_or(rt, FEW)),
-        )?;
-    }
-    Ok(())
 }
 
 // Runs a row over maps for so many lines, if it is asked, and writes its line.
-fn show(
-    rt: &(impl Env + Print),
-    call: &[u8],
-    size: &[u8],
-    words: &[u32],
-    nums: &[i64],
-    dens: &[u32],
-    tempos: &[u32],
+fn show<R: Env + Print>(
+    rt: &R,
+    call: &str,
+    size: &str,
+    maps: Maps,
     n: usize,
     few: u64,
 ) -> io::Result<()>
     requires { n ≤ 65536 }
 {
-    if benching::asked(rt, call, size) {
+    benching::row(rt, call, size, few, |turns| {
         let mut lines = [0u64; LINES];
-        let turns = benching::turns_or(rt, few);
-        let sum = rows::fill(clock(), words, nums, dens, tempos, &mut lines[0..n], turns);
-        benching::line(rt, call, size, sum)?;
-    }
-    Ok(())
+        rows::fill(clock(), maps, &mut lines[0..n], turns)
+    })
 }
 
-fn small(
-    rt: &(impl Env + Print),
-    words: &[u32],
-    nums: &[i64],
-    dens: &[u32],
-    tempos: &[u32],
-) -> io::Result<()> {
-    show(rt, b"fill-256", b"8", words, nums, dens, tempos, 8, 1000)?;
-    show(rt, b"fill-256", b"4096", words, nums, dens, tempos, 4096, 5)?;
-    show(
-        rt,
-        b"fill-256",
-        b"32768",
-        words,
-        nums,
-        dens,
-        tempos,
-        32768,
-        1,
-    )?;
-    show(
-        rt,
-        b"fill-256",
-        b"65536",
-        words,
-        nums,
-        dens,
-        tempos,
-        65536,
-        1,
-    )
-}
-
-fn large(
-    rt: &(impl Env + Print),
-    words: &[u32],
-    nums: &[i64],
-    dens: &[u32],
-    tempos: &[u32],
-) -> io::Result<()> {
-    show(rt, b"fill-1024", b"8", words, nums, dens, tempos, 8, 1000)?;
-    show(
-        rt,
-        b"fill-1024",
-        b"4096",
-        words,
-        nums,
-        dens,
-        tempos,
-        4096,
-        1,
-    )?;
-    show(
-        rt,
-        b"fill-1024",
-        b"32768",
-        words,
-        nums,
-        dens,
-        tempos,
-        32768,
-        0,
-    )?;
-    show(
-        rt,
-        b"fill-1024",
-        b"65536",
-        words,
-        nums,
-        dens,
-        tempos,
-        65536,
-        0,
-    )
-}
-
-fn all(
-    rt: &(impl Env + Print),
+fn all<R: Env + Print>(
+    rt: &R,
     words: &[u32],
     nums: &[i64],
     dens: &[u32],
@@ -169,15 +72,29 @@ fn all(
     requires dens_len { length dens.now ≡ 1024 }
     requires tempos_len { length tempos.now ≡ 1024 }
 {
-    show_empty(rt)?;
-    small(
-        rt,
-        &words[0..192],
-        &nums[0..256],
-        &dens[0..256],
-        &tempos[0..256],
-    )?;
-    large(rt, &words[0..768], nums, dens, tempos)
+    benching::row(rt, "empty", "any", FEW, |turns| {
+        benching::checksum(turns, |i| i % 8192)
+    })?;
+    let small = Maps {
+        words: &words[0..192],
+        nums: &nums[0..256],
+        dens: &dens[0..256],
+        tempos: &tempos[0..256],
+    };
+    show(rt, "fill-256", "8", small, 8, 1000)?;
+    show(rt, "fill-256", "4096", small, 4096, 5)?;
+    show(rt, "fill-256", "32768", small, 32768, 1)?;
+    show(rt, "fill-256", "65536", small, 65536, 1)?;
+    let large = Maps {
+        words: &words[0..768],
+        nums,
+        dens,
+        tempos,
+    };
+    show(rt, "fill-1024", "8", large, 8, 1000)?;
+    show(rt, "fill-1024", "4096", large, 4096, 1)?;
+    show(rt, "fill-1024", "32768", large, 32768, 0)?;
+    show(rt, "fill-1024", "65536", large, 65536, 0)
 }
 
 fn main(rt: HostRuntime) -> io::Result<()> {

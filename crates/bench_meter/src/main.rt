@@ -18,96 +18,93 @@
 // would cancel out.
 #![tactic(auto)]
 
-mod rows;
-
 ghost use Rattle.std.specs.Prelude.{◌≡◌, ◌*◌, ◌≤◌, length};
 
-use benching::{INPUTS, maps};
-use rows::Row;
+use beats::Beat;
+use benching::{INPUTS, checksum, input_of, maps, refusal_word};
 use std::env::Env;
 use std::io;
 
-// How many bars, or beats, the questions are spread over.
-fn span(row: Row, points: u32) -> u64 {
-    match row {
-        Row::Empty => points as u64 * 4 + 8,
-        Row::BeatAtBar => points as u64 * 4 + 8,
-        Row::BarCountAtBeat => points as u64 * 17 + 34,
-    }
+// The numerator where no point is in force; the denominator is 4 there.
+const DEFAULT: u32 = 4;
+
+fn beat_word(b: Beat) -> u64 {
+    benching::fraction_word(b.num, b.den)
 }
 
-// Runs a row over the first points of the map, if it is asked, and writes its line.
-fn show(
-    rt: &(impl Env + Print),
-    row: Row,
-    call: &[u8],
-    size: &[u8],
-    map: &[u32],
-    points: u32,
+// A row of questions spread over `span`: `word` makes the call and a word of its answer.
+fn row<R: Env + Print, F: Fn(u32) -> u64>(
+    rt: &R,
+    call: &str,
+    size: &str,
+    span: u64,
     few: u64,
+    word: F,
 ) -> io::Result<()>
-    requires { 3 * points ≤ length map.now }
+    requires { F.IsAlwaysCallable word }
 {
-    if benching::asked(rt, call, size) {
-        let turns = benching::turns_or(rt, few);
-        let mut questions = [0u32; INPUTS];
-        maps::fill_spread(&mut questions, span(row, points));
-        let words = 3 * points as usize;
-        benching::line(
-            rt,
-            call,
-            size,
-            rows::sum_of(row, &map[0..words], &questions, turns),
-        )?;
-    }
-    Ok(())
-}
-
-fn start(rt: &(impl Env + Print), size: &[u8], map: &[u32], points: u32, few: u64) -> io::Result<()>
-    requires { 3 * points ≤ length map.now }
-{
-    show(rt, Row::BeatAtBar, b"beat_at_bar", size, map, points, few)
-}
-
-fn count(rt: &(impl Env + Print), size: &[u8], map: &[u32], points: u32, few: u64) -> io::Result<()>
-    requires { 3 * points ≤ length map.now }
-{
-    show(
+    let mut questions = [0u32; INPUTS];
+    maps::fill_spread(&mut questions, span);
+    benching::row(
         rt,
-        Row::BarCountAtBeat,
-        b"bar_count_at_beat",
+        call,
         size,
-        map,
-        points,
         few,
+        |turns| checksum(turns, |i| word(questions[input_of(i)])),
     )
 }
 
-fn starts(rt: &(impl Env + Print), map: &[u32]) -> io::Result<()>
-    requires { length map.now ≡ 12288 }
+// The row of the beat at which a bar starts, over the first points of the map.
+fn start(rt: &(impl Env + Print), size: &str, map: &[u32], points: u32, few: u64) -> io::Result<()>
+    requires { 3 * points ≤ length map.now }
 {
-    start(rt, b"0", map, 0, 5000)?;
-    start(rt, b"16", map, 16, 5000)?;
-    start(rt, b"128", map, 128, 1000)?;
-    start(rt, b"256", map, 256, 1000)?;
-    start(rt, b"2048", map, 2048, 10)?;
-    start(rt, b"4096", map, 4096, 5)
+    let words = &map[..3 * points as usize];
+    row(
+        rt,
+        "beat_at_bar",
+        size,
+        u64::from(points) * 4 + 8,
+        few,
+        |bar| {
+            meter::beat_at_bar(words, DEFAULT, None, bar).map_or_else(refusal_word, beat_word)
+        },
+    )
 }
 
-fn counts(rt: &(impl Env + Print), map: &[u32]) -> io::Result<()>
-    requires { length map.now ≡ 12288 }
+// The row of the bars that have gone by at a beat, likewise.
+fn count(rt: &(impl Env + Print), size: &str, map: &[u32], points: u32, few: u64) -> io::Result<()>
+    requires { 3 * points ≤ length map.now }
 {
-    count(rt, b"0", map, 0, 5000)?;
-    count(rt, b"16", map, 16, 5000)?;
-    count(rt, b"128", map, 128, 200)?;
-    count(rt, b"256", map, 256, 50)?;
-    count(rt, b"2048", map, 2048, 1)?;
-    count(rt, b"4096", map, 4096, 1)
+    let words = &map[..3 * points as usize];
+    row(
+        rt,
+        "bar_count_at_beat",
+        size,
+        u64::from(points) * 17 + 34,
+        few,
+        |beat| {
+            let beat = Beat::from_int(i64::from(beat));
+            meter::bar_count_at_beat(words, DEFAULT, None, beat).map_or_else(
+                refusal_word,
+                u64::from,
+            )
+        },
+    )
 }
 
 fn main(rt: HostRuntime) -> io::Result<()> {
     let map = maps::meter_words();
-    show(&rt, Row::Empty, b"empty", b"any", &map, 4096, 5000)?;
-    starts(&rt, &map)?;
-    counts(&rt, &map)
+    row(&rt, "empty", "any", 16392, 5000, u64::from)?;
+    start(&rt, "0", &map, 0, 5000)?;
+    start(&rt, "16", &map, 16, 5000)?;
+    start(&rt, "128", &map, 128, 1000)?;
+    start(&rt, "256", &map, 256, 1000)?;
+    start(&rt, "2048", &map, 2048, 10)?;
+    start(&rt, "4096", &map, 4096, 5)?;
+    count(&rt, "0", &map, 0, 5000)?;
+    count(&rt, "16", &map, 16, 5000)?;
+    count(&rt, "128", &map, 128, 200)?;
+    count(&rt, "256", &map, 256, 50)?;
+    count(&rt, "2048", &map, 2048, 1)?;
+    count(&rt, "4096", &map, 4096, 1)
 }

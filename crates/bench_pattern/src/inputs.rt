@@ -4,7 +4,7 @@ use benching::{START, next};
 // Four words a note of the largest list. A smaller one is the front of it.
 pub const WORDS: usize = 16384;
 
-#[derive(Clone, Copy)]
+#[derive(Clone, Copy, Debug, PartialEq, Eq)]
 pub enum Order {
     Sorted,
     Reversed,
@@ -24,12 +24,11 @@ fn step_of(order: Order, k: u32, s: u64) -> u32 {
 pub fn notes(order: Order) -> [u32; WORDS] {
     let mut words = [0u32; WORDS];
     let mut r = START;
-    for k in 0..4096 {
+    for (k, note) in words.as_chunks_mut().0.iter_mut().enumerate() {
         let s = next(r);
-        words[4 * k] = step_of(order, k as u32, s);
-        words[4 * k + 1] = (r % 8 + 1) as u32;
-        words[4 * k + 2] = 0x3f00_0000 + (r % 0x80_0000) as u32;
-        words[4 * k + 3] = k as u32;
+        let step = step_of(order, k as u32, s);
+        let gain = 0x3f00_0000 + (r % 0x80_0000) as u32;
+        *note = [step, (r % 8 + 1) as u32, gain, k as u32];
         r = next(s);
     }
     words

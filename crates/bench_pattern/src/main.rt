@@ -28,110 +28,125 @@
 mod inputs;
 mod rows;
 
-ghost use Rattle.std.specs.Prelude.{◌≡◌, ◌*◌, ◌≤◌, length};
-
 use inputs::{Order, WORDS};
-use rows::Row;
+use numbers::Refusal;
+use pattern::Wrote;
+use rows::{bars, count, factor, steps};
 use std::env::Env;
 use std::io;
 
-// Runs a row over the first notes of a list, if it is asked, and writes its line.
-fn show(
-    rt: &(impl Env + Print),
-    row: Row,
-    call: &[u8],
-    size: &[u8],
-    list: &[u32],
-    notes: u32,
-    few: u64,
-) -> io::Result<()>
-    requires { 4 * notes ≤ length list.now }
-{
-    if benching::asked(rt, call, size) {
-        let turns = benching::turns_or(rt, few);
-        let mut lent = [0u32; WORDS];
-        let words = 4 * notes as usize;
-        benching::line(
-            rt,
-            call,
-            size,
-            rows::sum_of(row, &list[0..words], notes, &mut lent, turns),
-        )?;
-    }
-    Ok(())
-}
-
 // The rows of a call, for each size.
-fn sizes(rt: &(impl Env + Print), row: Row, call: &[u8], list: &[u32]) -> io::Result<()>
-    requires { length list.now ≡ 16384 }
+fn sizes<R: Env + Print, F: Fn(&[u32], u32, &mut [u32]) -> Result<Wrote, Refusal> + Copy>(
+    rt: &R,
+    name: &str,
+    list: &[u32; WORDS],
+    call: F,
+) -> io::Result<()>
+    requires { F.IsAlwaysCallable call }
 {
-    show(rt, row, call, b"16", list, 16, 1000)?;
-    show(rt, row, call, b"256", list, 256, 200)?;
-    show(rt, row, call, b"4096", list, 4096, 30)
+    rows::show(rt, name, "16", &list[..64], 1000, call)?;
+    rows::show(rt, name, "256", &list[..1024], 200, call)?;
+    rows::show(rt, name, "4096", list, 30, call)
 }
 
-// The rows of the calls that sort, over lists in each order. For the last one size more shows how
-// the cost grows.
-fn sorts(
-    rt: &(impl Env + Print),
-    row: Row,
-    sorted: &[u8],
-    reversed: &[u8],
-    random: &[u8],
-) -> io::Result<()> {
-    let list = inputs::notes(Order::Sorted);
-    sizes(rt, row, sorted, &list)?;
-    let list = inputs::notes(Order::Reversed);
-    sizes(rt, row, reversed, &list)?;
+// The row of a call over half of a list.
+fn half<R: Env + Print, F: Fn(&[u32], u32, &mut [u32]) -> Result<Wrote, Refusal>>(
+    rt: &R,
+    name: &str,
+    list: &[u32; WORDS],
+    call: F,
+) -> io::Result<()>
+    requires { F.IsAlwaysCallable call }
+{
+    rows::show(rt, name, "2048", &list[..8192], 30, call)
+}
+
+// The rows of a call that sorts, over lists in each order. For the last one size more shows how the
+// cost grows.
+fn sorts<R: Env + Print, F: Fn(&[u32], u32, &mut [u32]) -> Result<Wrote, Refusal> + Copy>(
+    rt: &R,
+    sorted: &str,
+    reversed: &str,
+    random: &str,
+    call: F,
+) -> io::Result<()>
+    requires { F.IsAlwaysCallable call }
+{
+    sizes(rt, sorted, &inputs::notes(Order::Sorted), call)?;
+    sizes(rt, reversed, &inputs::notes(Order::Reversed), call)?;
     let list = inputs::notes(Order::Random);
-    sizes(rt, row, random, &list)?;
-    show(rt, row, random, b"2048", &list, 2048, 30)
+    sizes(rt, random, &list, call)?;
+    half(rt, random, &list, call)
 }
 
-// The rows of the other calls.
-fn copies(rt: &(impl Env + Print), list: &[u32]) -> io::Result<()>
-    requires { length list.now ≡ 16384 }
-{
-    show(rt, Row::Empty, b"empty", b"any", list, 4096, 5000)?;
-    sizes(rt, Row::Repeat, b"repeat", list)?;
-    sizes(rt, Row::Concat, b"concat", list)?;
-    sizes(rt, Row::Slice, b"slice", list)?;
-    sizes(rt, Row::Stretch, b"stretch", list)?;
-    sizes(rt, Row::Vel, b"vel", list)?;
-    sizes(rt, Row::Gate, b"gate", list)?;
-    sizes(rt, Row::Euclidean, b"euclidean", list)?;
-    sizes(rt, Row::Tuplet, b"tuplet", list)
+// The rows of the calls that do not sort.
+fn copies<R: Env + Print>(rt: &R, list: &[u32; WORDS]) -> io::Result<()> {
+    rows::show(
+        rt,
+        "empty",
+        "any",
+        list,
+        5000,
+        |_words, q, _out| rows::none(q),
+    )?;
+    sizes(rt, "repeat", list, |words, q, out| {
+        pattern::repeat(bars(), &words[..words.len() / 4], q % 64, 4, out)
+    })?;
+    sizes(rt, "concat", list, |words, q, out| {
+        let half = &words[..words.len() / 2];
+        pattern::concat(bars(), half, bars(), half, q % 64, out)
+    })?;
+    sizes(rt, "slice", list, |words, q, out| {
+        pattern::slice(bars(), words, q / 2, 4096, 16, out)
+    })?;
+    sizes(rt, "stretch", list, |words, q, out| {
+        pattern::stretch(bars(), words, q % 7 * 3 + 3, 3, out)
+    })?;
+    sizes(rt, "vel", list, |words, q, out| {
+        pattern::vel(bars(), words, factor(q), out)
+    })?;
+    sizes(rt, "gate", list, |words, q, out| {
+        pattern::gate(bars(), words, factor(q), out)
+    })?;
+    sizes(rt, "euclidean", list, |words, q, out| {
+        pattern::euclidean(count(words), steps(words, 2, q), 36, 1, 16, out)
+    })?;
+    sizes(rt, "tuplet", list, |words, q, out| {
+        pattern::tuplet(count(words), steps(words, 4, q), 36, 1, out)
+    })
 }
 
 fn main(rt: HostRuntime) -> io::Result<()> {
-    let list = inputs::notes(Order::Random);
-    copies(&rt, &list)?;
+    copies(&rt, &inputs::notes(Order::Random))?;
     sorts(
         &rt,
-        Row::Layer,
-        b"layer-sorted",
-        b"layer-reversed",
-        b"layer-random",
+        "layer-sorted",
+        "layer-reversed",
+        "layer-random",
+        |words, _q, out| {
+            let half = &words[..words.len() / 2];
+            pattern::layer(bars(), half, bars(), half, out)
+        },
     )?;
     sorts(
         &rt,
-        Row::Rotate,
-        b"rotate-sorted",
-        b"rotate-reversed",
-        b"rotate-random",
+        "rotate-sorted",
+        "rotate-reversed",
+        "rotate-random",
+        |words, q, out| { pattern::rotate(bars(), words, i64::from(q), 16, out) },
     )?;
     sorts(
         &rt,
-        Row::Reverse,
-        b"reverse-sorted",
-        b"reverse-reversed",
-        b"reverse-random",
+        "reverse-sorted",
+        "reverse-reversed",
+        "reverse-random",
+        |words, q, out| { pattern::reverse(bars(), words, q % 2 + 16, out) },
     )?;
     sorts(
         &rt,
-        Row::Quantize,
-        b"quantize-sorted",
-        b"quantize-reversed",
-        b"quantize-random",
+        "quantize-sorted",
+        "quantize-reversed",
+        "quantize-random",
+        |words, q, out| { pattern::quantize(bars(), words, q % 16 + 1, out) },
     )
 }

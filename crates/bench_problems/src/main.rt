@@ -16,134 +16,143 @@
 // sound map has the checksum of the empty row.
 #![tactic(auto)]
 
-mod rows;
-
-ghost use Rattle.std.specs.Prelude.{◌≡◌, ◌≤◌, length};
+ghost use Rattle.std.specs.Prelude.{◌≡◌, ◌*◌, ◌≤◌, length};
 
 use benching::maps::{METER_WORDS, TEMPO_POINTS};
-use benching::{INPUTS, maps};
-use rows::Row;
+use benching::{INPUTS, input_of, maps, mixed, place};
+use numbers::Refusal;
 use std::env::Env;
 use std::io;
+use tempo::TempoMap;
 
 // The turns of a row that nobody asked by name: no multiple of 64, after which the checksum has
 // turned round and answers that are spread evenly would cancel out.
 const FEW: u64 = 1000;
 
-// Runs a row over the first points of its map, if it is asked, and writes its line.
-fn show(
+// The word at an index of so many records, or 0 behind them.
+fn written(lent: &[u32], count: u32, at: usize) -> u32 {
+    if at / 3 >= count as usize {
+        return 0;
+    }
+    lent.get(at).copied().unwrap_or(0)
+}
+
+// The count of the problems and a word of their records. A refusal counts as its number in
+// document 01.
+fn word(answer: Result<u32, Refusal>, lent: &[u32], at: usize) -> u64 {
+    match answer {
+        Ok(count) => u64::from(count) << 48 ^ u64::from(written(lent, count, at)) << 16,
+        Err(why) => benching::refusal_word(why),
+    }
+}
+
+// One turn: the count and a word of the records, and the place that the turn looks at.
+fn turn<F: Fn(&mut [u32]) -> Result<u32, Refusal>>(call: &F, lent: &mut [u32], i: u64) -> u64
+    requires { F.IsAlwaysCallable call.now }
+{
+    let at = place(input_of(i));
+    let answer = call(&mut *lent);
+    word(answer, lent, at as usize) ^ u64::from(at)
+}
+
+// The checksum of so many turns.
+// Stays: tried by `benching::checksum`, and `checksum-requires` stayed open: its closure would lend `lent` and
+// call `call` at once.
+fn sum_of<F: Fn(&mut [u32]) -> Result<u32, Refusal>>(call: &F, turns: u64) -> u64
+    requires { F.IsAlwaysCallable call.now }
+{
+    let mut lent = [0u32; INPUTS];
+    let mut sum = 0;
+    for i in 0..turns {
+        sum = mixed(sum, turn(call, &mut lent, i));
+    }
+    sum
+}
+
+// A row: `call` lists the problems. Each turn's answer goes into the checksum with a word of its records,
+// so that no call can be left out, and with the place that it looks at, so that it tells how many turns
+// were made where no map has a problem.
+fn row<R: Env + Print, F: Fn(&mut [u32]) -> Result<u32, Refusal>>(
+    rt: &R,
+    name: &str,
+    size: &str,
+    call: F,
+) -> io::Result<()>
+    requires { F.IsAlwaysCallable call }
+{
+    benching::row(rt, name, size, FEW, |turns| sum_of(&call, turns))
+}
+
+// The row of the first points of a meter map.
+fn meter_row(
     rt: &(impl Env + Print),
-    row: Row,
-    call: &[u8],
-    size: &[u8],
+    name: &str,
+    size: &str,
     words: &[u32],
-    nums: &[i64],
-    dens: &[u32],
-    tempos: &[u32],
     points: usize,
 ) -> io::Result<()>
-    requires points_bound { points ≤ 1024 }
-    requires words_len { length words.now ≡ 12288 }
-    requires nums_len { length nums.now ≡ 1024 }
-    requires dens_len { length dens.now ≡ 1024 }
-    requires tempos_len { length tempos.now ≡ 1024 }
+    requires { 3 * points ≤ length words.now }
 {
-    if benching::asked(rt, call, size) {
-        let turns = benching::turns_or(rt, FEW);
-        let mut lent = [0u32; INPUTS];
-        let end = 3 * points;
-        let sum = rows::sum_of(
-            row,
-            &words[0..end],
-            &nums[0..points],
-            &dens[0..points],
-            &tempos[0..points],
-            &mut lent,
-            turns,
-        );
-        benching::line(rt, call, size, sum)?;
-    }
-    Ok(())
+    let words = &words[..3 * points];
+    row(rt, name, size, |out| points::flat_problems(words, out))
 }
 
 // The rows of a meter map, for each size.
-fn meter_rows(
-    rt: &(impl Env + Print),
-    call: &[u8],
-    words: &[u32],
-    nums: &[i64],
-    dens: &[u32],
-    tempos: &[u32],
-) -> io::Result<()>
-    requires words_len { length words.now ≡ 12288 }
-    requires nums_len { length nums.now ≡ 1024 }
-    requires dens_len { length dens.now ≡ 1024 }
-    requires tempos_len { length tempos.now ≡ 1024 }
+fn meter_rows(rt: &(impl Env + Print), name: &str, words: &[u32]) -> io::Result<()>
+    requires { length words.now ≡ 12288 }
 {
-    show(rt, Row::Meter, call, b"16", words, nums, dens, tempos, 16)?;
-    show(rt, Row::Meter, call, b"128", words, nums, dens, tempos, 128)?;
-    show(rt, Row::Meter, call, b"256", words, nums, dens, tempos, 256)
+    meter_row(rt, name, "16", words, 16)?;
+    meter_row(rt, name, "128", words, 128)?;
+    meter_row(rt, name, "256", words, 256)
 }
 
-// The rows of a tempo map, for each size.
-fn tempo_rows(
+// The row of the first points of a tempo map.
+fn tempo_row(
     rt: &(impl Env + Print),
-    call: &[u8],
-    words: &[u32],
-    nums: &[i64],
-    dens: &[u32],
-    tempos: &[u32],
+    name: &str,
+    size: &str,
+    map: &TempoMap,
+    points: usize,
 ) -> io::Result<()>
-    requires words_len { length words.now ≡ 12288 }
-    requires nums_len { length nums.now ≡ 1024 }
-    requires dens_len { length dens.now ≡ 1024 }
-    requires tempos_len { length tempos.now ≡ 1024 }
+    requires { points ≤ length map.now.nums.now }
 {
-    show(rt, Row::Tempo, call, b"64", words, nums, dens, tempos, 64)?;
-    show(rt, Row::Tempo, call, b"512", words, nums, dens, tempos, 512)?;
-    show(
+    let nums = &map.nums[..points];
+    let dens = &map.dens[..points];
+    let tempos = &map.tempos[..points];
+    row(
         rt,
-        Row::Tempo,
-        call,
-        b"1024",
-        words,
-        nums,
-        dens,
-        tempos,
-        1024,
+        name,
+        size,
+        |out| problems::tempo_map_problems(nums, dens, tempos, out),
     )
 }
 
-fn sound(rt: &(impl Env + Print)) -> io::Result<()> {
-    let words = maps::meter_words();
-    let nums = maps::tempo_nums();
-    let dens = maps::tempo_dens();
-    let tempos = maps::tempo_bits();
-    show(
-        rt,
-        Row::Empty,
-        b"empty",
-        b"any",
-        &words,
-        &nums,
-        &dens,
-        &tempos,
-        0,
-    )?;
-    meter_rows(rt, b"meter-sound", &words, &nums, &dens, &tempos)?;
-    tempo_rows(rt, b"tempo-sound", &words, &nums, &dens, &tempos)
-}
-
-fn wrong(rt: &(impl Env + Print)) -> io::Result<()> {
-    let words = [0u32; METER_WORDS];
-    let nums = [0i64; TEMPO_POINTS];
-    let dens = maps::tempo_dens();
-    let tempos = [0xc2f0_0000u32; TEMPO_POINTS];
-    meter_rows(rt, b"meter-wrong", &words, &nums, &dens, &tempos)?;
-    tempo_rows(rt, b"tempo-wrong", &words, &nums, &dens, &tempos)
+// The rows of a tempo map, for each size.
+fn tempo_rows(rt: &(impl Env + Print), name: &str, map: &TempoMap) -> io::Result<()>
+    requires { length map.now.nums.now ≡ 1024 }
+{
+    tempo_row(rt, name, "64", map, 64)?;
+    tempo_row(rt, name, "512", map, 512)?;
+    tempo_row(rt, name, "1024", map, 1024)
 }
 
 fn main(rt: HostRuntime) -> io::Result<()> {
-    sound(&rt)?;
-    wrong(&rt)
+    let dens = maps::tempo_dens();
+    row(&rt, "empty", "any", |_| Ok(0))?;
+    meter_rows(&rt, "meter-sound", &maps::meter_words())?;
+    let nums = maps::tempo_nums();
+    let tempos = maps::tempo_bits();
+    let sound = TempoMap {
+        nums: &nums,
+        dens: &dens,
+        tempos: &tempos,
+    };
+    tempo_rows(&rt, "tempo-sound", &sound)?;
+    meter_rows(&rt, "meter-wrong", &[0u32; METER_WORDS])?;
+    let wrong = TempoMap {
+        nums: &[0i64; TEMPO_POINTS],
+        dens: &dens,
+        tempos: &[0xc2f0_0000u32; TEMPO_POINTS],
+    };
+    tempo_rows(&rt, "tempo-wrong", &wrong)
 }

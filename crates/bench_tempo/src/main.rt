@@ -13,109 +13,122 @@
 // last point, with a fraction. So are the seconds: a beat lasts some half a second.
 #![tactic(auto)]
 
-mod inputs;
-mod rows;
-
 ghost use Rattle.std.specs.Prelude.{◌≡◌, ◌<◌, ◌≤◌, length};
 
-use benching::{INPUTS, maps};
-use rows::Row;
+use benching::{INPUTS, checksum, input_of, maps, refusal_word};
+use rounding::f64_word;
 use std::env::Env;
 use std::io;
+use tempo::TempoMap;
 
 // The turns of a row that nobody asked by name: no multiple of 64, after which the checksum has
 // turned round and answers that are spread evenly would cancel out.
 const FEW: u64 = 5000;
 
-// How many beats, or seconds, the questions are spread over.
-fn span(row: Row, points: usize) -> u32
-    requires { points ≤ 1024 }
+// Numbers below `span`, spread over it.
+fn spread(span: u32) -> [f64; INPUTS] {
+    let mut questions = [0f64; INPUTS];
+    for (k, question) in questions.iter_mut().enumerate() {
+        *question = f64::from(benching::place(k)) * f64::from(span) / 8192.0;
+    }
+    questions
+}
+
+// A row of questions spread over `span`: `word` makes the call and a word of its answer.
+fn row<R: Env + Print, F: Fn(f64) -> u64>(
+    rt: &R,
+    call: &str,
+    size: &str,
+    span: u32,
+    word: F,
+) -> io::Result<()>
+    requires { F.IsAlwaysCallable word }
 {
-    match row {
-        Row::Empty => (4 * points + 8) as u32,
-        Row::SecondsAt => (4 * points + 8) as u32,
-        Row::BpmAt => (4 * points + 8) as u32,
-        Row::BeatAtSeconds => (2 * points + 4) as u32,
-        Row::WalksSecondsAt => (4 * points + 8) as u32,
+    let questions = spread(span);
+    benching::row(
+        rt,
+        call,
+        size,
+        FEW,
+        |turns| checksum(turns, |i| word(questions[input_of(i)])),
+    )
+}
+
+// The first points of a map.
+fn front<'a>(map: &TempoMap<'a>, points: usize) -> TempoMap<'a>
+    requires { points ≤ length map.now.nums.now }
+    ensures { length result.nums.now ≡ points }
+{
+    TempoMap {
+        nums: &map.nums[..points],
+        dens: &map.dens[..points],
+        tempos: &map.tempos[..points],
     }
 }
 
-// Runs a row over the first points of the map, if it is asked, and writes its line.
-fn show(
-    rt: &(impl Env + Print),
-    row: Row,
-    call: &[u8],
-    size: &[u8],
-    nums: &[i64],
-    dens: &[u32],
-    tempos: &[u32],
-    points: usize,
+// The row of a call over a map.
+fn over<R: Env + Print, F: Fn(&TempoMap, f64) -> u64>(
+    rt: &R,
+    call: &str,
+    size: &str,
+    map: TempoMap,
+    span: u32,
+    word: &F,
 ) -> io::Result<()>
-    requires points_nonzero { 0 < points }
-    requires points_bound { points ≤ 1024 }
-    requires nums_len { length nums.now ≡ 1024 }
-    requires dens_len { length dens.now ≡ 1024 }
-    requires tempos_len { length tempos.now ≡ 1024 }
+    requires { F.IsAlwaysCallable word.now }
 {
-    if benching::asked(rt, call, size) {
-        let turns = benching::turns_or(rt, FEW);
-        let mut questions = [0f64; INPUTS];
-        inputs::fill_questions(&mut questions, span(row, points));
-        let sum = rows::sum_of(
-            row,
-            &nums[0..points],
-            &dens[0..points],
-            &tempos[0..points],
-            &questions,
-            turns,
-        );
-        benching::line(rt, call, size, sum)?;
-    }
-    Ok(())
+    row(rt, call, size, span, |x| word(&map, x))
 }
 
-// The rows of a call, for each size.
-fn sizes(
-    rt: &(impl Env + Print),
-    row: Row,
-    call: &[u8],
-    nums: &[i64],
-    dens: &[u32],
-    tempos: &[u32],
+// The rows of a call, for each size. The questions are spread over `stretch` a point.
+fn sizes<R: Env + Print, F: Fn(&TempoMap, f64) -> u64>(
+    rt: &R,
+    call: &str,
+    map: &TempoMap,
+    stretch: u32,
+    word: F,
 ) -> io::Result<()>
-    requires nums_len { length nums.now ≡ 1024 }
-    requires dens_len { length dens.now ≡ 1024 }
-    requires tempos_len { length tempos.now ≡ 1024 }
+    requires points { length map.now.nums.now ≡ 1024 }
+    requires few { stretch ≤ 4 }
+    requires callable { F.IsAlwaysCallable word }
 {
-    show(rt, row, call, b"1", nums, dens, tempos, 1)?;
-    show(rt, row, call, b"64", nums, dens, tempos, 64)?;
-    show(rt, row, call, b"512", nums, dens, tempos, 512)?;
-    show(rt, row, call, b"1024", nums, dens, tempos, 1024)
+    over(rt, call, "1", front(map, 1), 3 * stretch, &word)?;
+    over(rt, call, "64", front(map, 64), 66 * stretch, &word)?;
+    over(rt, call, "512", front(map, 512), 514 * stretch, &word)?;
+    over(rt, call, "1024", *map, 1026 * stretch, &word)
 }
 
-fn all(rt: &(impl Env + Print), nums: &[i64], dens: &[u32], tempos: &[u32]) -> io::Result<()>
-    requires nums_len { length nums.now ≡ 1024 }
-    requires dens_len { length dens.now ≡ 1024 }
-    requires tempos_len { length tempos.now ≡ 1024 }
+// The row of the walk that a crate calls which has tested its map.
+fn walk(rt: &(impl Env + Print), size: &str, map: TempoMap, span: u32) -> io::Result<()>
+    requires { 0 < length map.nums.now }
 {
-    show(rt, Row::Empty, b"empty", b"any", nums, dens, tempos, 1024)?;
-    sizes(rt, Row::SecondsAt, b"seconds_at", nums, dens, tempos)?;
-    sizes(rt, Row::BpmAt, b"bpm_at", nums, dens, tempos)?;
-    sizes(
+    row(
         rt,
-        Row::BeatAtSeconds,
-        b"beat_at_seconds",
-        nums,
-        dens,
-        tempos,
-    )?;
-    sizes(
-        rt,
-        Row::WalksSecondsAt,
-        b"walks_seconds_at",
-        nums,
-        dens,
-        tempos,
+        "walks_seconds_at",
+        size,
+        span,
+        |x| f64_word(map.seconds_at(x)),
+    )
+}
+
+fn seconds_at(map: &TempoMap, beat: f64) -> u64 {
+    tempo::tempo_map_seconds_at(map.nums, map.dens, map.tempos, beat).map_or_else(
+        refusal_word,
+        f64_word,
+    )
+}
+
+fn bpm_at(map: &TempoMap, beat: f64) -> u64 {
+    tempo::tempo_map_bpm_at(map.nums, map.dens, map.tempos, beat).map_or_else(
+        refusal_word,
+        f64_word,
+    )
+}
+
+fn beat_at_seconds(map: &TempoMap, seconds: f64) -> u64 {
+    tempo::tempo_map_beat_at_seconds(map.nums, map.dens, map.tempos, seconds).map_or_else(
+        refusal_word,
+        f64_word,
     )
 }
 
@@ -123,5 +136,17 @@ fn main(rt: HostRuntime) -> io::Result<()> {
     let nums = maps::tempo_nums();
     let dens = maps::tempo_dens();
     let tempos = maps::tempo_bits();
-    all(&rt, &nums, &dens, &tempos)
+    let map = TempoMap {
+        nums: &nums,
+        dens: &dens,
+        tempos: &tempos,
+    };
+    row(&rt, "empty", "any", 4104, f64_word)?;
+    sizes(&rt, "seconds_at", &map, 4, seconds_at)?;
+    sizes(&rt, "bpm_at", &map, 4, bpm_at)?;
+    sizes(&rt, "beat_at_seconds", &map, 2, beat_at_seconds)?;
+    walk(&rt, "1", front(&map, 1), 12)?;
+    walk(&rt, "64", front(&map, 64), 264)?;
+    walk(&rt, "512", front(&map, 512), 2056)?;
+    walk(&rt, "1024", map, 4104)
 }

@@ -23,28 +23,27 @@
 // out.
 #![tactic(auto)]
 
-mod rows;
-
-ghost use Rattle.std.specs.Prelude.{◌≡◌, ◌≤◌, length};
+ghost use Rattle.std.specs.Prelude.{◌≡◌, ◌≤◌, true, length};
+ghost use Rattle.transport.specs.Transports.{sound};
 
 use beats::Beat;
-use benching::{INPUTS, maps};
-use meter::Pickup;
-use rows::Row;
+use benching::{INPUTS, checksum, input_of, maps, mixed, refusal_word};
 use std::env::Env;
 use std::io;
-use transport::{LoopRange, PlayState, Transport};
+use tempo::TempoMap;
+use timeline::places;
+use transport::{LoopRange, Moves, PlayState, Transport, change, playhead};
 
 // The turns of a row over a transport alone.
 const FEW: u64 = 5000;
 
 // A transport that plays from frame 0.
-fn clock(looping: LoopRange, pickup: Pickup) -> Transport {
+fn clock(looping: Option<LoopRange>, pickup: Option<Beat>) -> Transport {
     Transport {
         sample_rate: 48000,
         bpm: 120.0f32,
         beats_per_bar: 4,
-        length: 0xffff_ffff_ffff_ffff,
+        length: u64::MAX,
         position: 0,
         state: PlayState::Playing,
         looping,
@@ -52,155 +51,209 @@ fn clock(looping: LoopRange, pickup: Pickup) -> Transport {
     }
 }
 
-// Runs a row over a transport alone, if it is asked, and writes its line.
-fn show_clock(rt: &(impl Env + Print), row: Row, call: &[u8], size: &[u8]) -> io::Result<()> {
-    if benching::asked(rt, call, size) {
-        let turns = benching::turns_or(rt, FEW);
-        let mut questions = [0u32; INPUTS];
-        maps::fill_spread(&mut questions, 4096);
-        let t = clock(
-            LoopRange::On(1000, 97000),
-            Pickup::Present(Beat { num: 1, den: 1 }),
-        );
-        benching::line(rt, call, size, rows::clock_sum(row, t, &questions, turns))?;
-    }
-    Ok(())
+// A position, with what the advance did in the highest bits.
+fn moved_word(position: u64, moves: Moves) -> u64 {
+    position ^ u64::from(moves.wrapped) << 63 ^ u64::from(moves.finished) << 62
 }
 
-// How many bars, or frames, the questions are spread over.
-fn span(row: Row, points: u64) -> u64
-    requires { points ≤ 256 }
+// The checksum of a sound transport's advances.
+// Stays: `checksum` asks a closure that may always be called, and this call asks a sound transport,
+// which the loop's invariant keeps.
+fn advanced(from: Transport, questions: &[u32; INPUTS], turns: u64) -> u64
+    requires { sound from ≡ true }
 {
-    match row {
-        Row::PositionBars => (points * 17 + 34) * 24000,
-        _ => points * 4 + 8,
+    let mut t = from;
+    let mut sum = 0;
+    for i in 0..turns {
+        let frames = u64::from(questions[input_of(i)]);
+        let run = playhead::advanced(t, frames);
+        t = run.transport;
+        sum = mixed(sum, moved_word(t.position, run.moves));
+    }
+    sum
+}
+
+// The rows over a transport alone.
+fn clock_rows<R: Env + Print>(rt: &R) -> io::Result<()> {
+    let mut questions = [0u32; INPUTS];
+    maps::fill_spread(&mut questions, 4096);
+    let range = LoopRange {
+        start: 1000,
+        end: 97000,
+    };
+    let from = clock(Some(range), Some(Beat { num: 1, den: 1 }));
+    benching::row(
+        rt,
+        "empty",
+        "any",
+        FEW,
+        |turns| checksum(turns, |i| u64::from(questions[input_of(i)])),
+    )?;
+    benching::row(rt, "advance", "loop", FEW, |turns| {
+        let mut t = from;
+        checksum(turns, |i| {
+            let handed = t.advance(u64::from(questions[input_of(i)]));
+            t = handed.transport;
+            match handed.answer {
+                Ok(moves) => moved_word(t.position, moves),
+                Err(why) => refusal_word(why),
+            }
+        })
+    })?;
+    benching::row(rt, "advanced", "loop", FEW, |turns| {
+        if from.is_sound() {
+            advanced(from, &questions, turns)
+        } else {
+            12
+        }
+    })
+}
+
+// The maps of all rows, at their longest.
+#[derive(Clone, Copy)]
+struct Maps<'a> {
+    words: &'a [u32],
+    nums: &'a [i64],
+    dens: &'a [u32],
+    tempos: &'a [u32],
+    ghost words_long: { length words.now ≡ 12288 },
+    ghost nums_long: { length nums.now ≡ 1024 },
+    ghost dens_long: { length dens.now ≡ 1024 },
+    ghost tempos_long: { length tempos.now ≡ 1024 },
+}
+
+impl<'a> Maps<'a> {
+    // The first points of the meter map.
+    fn meter(&self, points: usize) -> &'a [u32]
+        requires { points ≤ 256 }
+    {
+        let words = self.words;
+        &words[..3 * points]
+    }
+
+    // The tempo map of four points for each.
+    fn tempo(&self, points: usize) -> TempoMap<'a>
+        requires { points ≤ 256 }
+    {
+        let nums = self.nums;
+        let dens = self.dens;
+        let tempos = self.tempos;
+        TempoMap {
+            nums: &nums[..4 * points],
+            dens: &dens[..4 * points],
+            tempos: &tempos[..4 * points],
+        }
     }
 }
 
-// Runs a row over the first points of the maps, if it is asked, and writes its line.
-fn show(
-    rt: &(impl Env + Print),
-    row: Row,
-    call: &[u8],
-    size: &[u8],
-    words: &[u32],
-    nums: &[i64],
-    dens: &[u32],
-    tempos: &[u32],
-    points: usize,
+// A row of questions spread over `span`: `word` makes the call and a word of its answer.
+fn row<R: Env + Print, F: Fn(u32) -> u64>(
+    rt: &R,
+    call: &str,
+    size: &str,
+    span: u64,
     few: u64,
+    word: F,
 ) -> io::Result<()>
-    requires points_bound { points ≤ 256 }
-    requires words_len { length words.now ≡ 12288 }
-    requires nums_len { length nums.now ≡ 1024 }
-    requires dens_len { length dens.now ≡ 1024 }
-    requires tempos_len { length tempos.now ≡ 1024 }
+    requires { F.IsAlwaysCallable word }
 {
-    if benching::asked(rt, call, size) {
-        let turns = benching::turns_or(rt, few);
-        let mut questions = [0u32; INPUTS];
-        maps::fill_spread(&mut questions, span(row, points as u64));
-        let sum = rows::maps_sum(
-            row,
-            clock(LoopRange::Off, Pickup::Absent),
-            &words[0..3 * points],
-            &nums[0..4 * points],
-            &dens[0..4 * points],
-            &tempos[0..4 * points],
-            &questions,
-            turns,
-        );
-        benching::line(rt, call, size, sum)?;
-    }
-    Ok(())
-}
-
-fn frame_rows(
-    rt: &(impl Env + Print),
-    row: Row,
-    call: &[u8],
-    words: &[u32],
-    nums: &[i64],
-    dens: &[u32],
-    tempos: &[u32],
-) -> io::Result<()>
-    requires words_len { length words.now ≡ 12288 }
-    requires nums_len { length nums.now ≡ 1024 }
-    requires dens_len { length dens.now ≡ 1024 }
-    requires tempos_len { length tempos.now ≡ 1024 }
-{
-    show(rt, row, call, b"0", words, nums, dens, tempos, 0, 5000)?;
-    show(rt, row, call, b"128", words, nums, dens, tempos, 128, 1000)?;
-    show(rt, row, call, b"256", words, nums, dens, tempos, 256, 1000)
-}
-
-fn position_rows(
-    rt: &(impl Env + Print),
-    row: Row,
-    call: &[u8],
-    words: &[u32],
-    nums: &[i64],
-    dens: &[u32],
-    tempos: &[u32],
-) -> io::Result<()>
-    requires words_len { length words.now ≡ 12288 }
-    requires nums_len { length nums.now ≡ 1024 }
-    requires dens_len { length dens.now ≡ 1024 }
-    requires tempos_len { length tempos.now ≡ 1024 }
-{
-    show(rt, row, call, b"0", words, nums, dens, tempos, 0, 5000)?;
-    show(rt, row, call, b"128", words, nums, dens, tempos, 128, 200)?;
-    show(rt, row, call, b"256", words, nums, dens, tempos, 256, 50)
-}
-
-fn all(
-    rt: &(impl Env + Print),
-    words: &[u32],
-    nums: &[i64],
-    dens: &[u32],
-    tempos: &[u32],
-) -> io::Result<()>
-    requires words_len { length words.now ≡ 12288 }
-    requires nums_len { length nums.now ≡ 1024 }
-    requires dens_len { length dens.now ≡ 1024 }
-    requires tempos_len { length tempos.now ≡ 1024 }
-{
-    show_clock(rt, Row::Empty, b"empty", b"any")?;
-    show_clock(rt, Row::Advance, b"advance", b"loop")?;
-    show_clock(rt, Row::Advanced, b"advanced", b"loop")?;
-    frame_rows(
+    let mut questions = [0u32; INPUTS];
+    maps::fill_spread(&mut questions, span);
+    benching::row(
         rt,
-        Row::FrameAtBar,
-        b"frame_at_bar",
-        words,
-        nums,
-        dens,
-        tempos,
-    )?;
-    frame_rows(
-        rt,
-        Row::PlacesFrameAtBar,
-        b"places_frame_at_bar",
-        words,
-        nums,
-        dens,
-        tempos,
-    )?;
-    position_rows(
-        rt,
-        Row::PositionBars,
-        b"position_bars",
-        words,
-        nums,
-        dens,
-        tempos,
+        call,
+        size,
+        few,
+        |turns| checksum(turns, |i| word(questions[input_of(i)])),
     )
 }
 
+// How many bars the questions are spread over.
+fn bars(points: usize) -> u64
+    requires { points ≤ 256 }
+{
+    points as u64 * 4 + 8
+}
+
+fn frame_row<R: Env + Print>(
+    rt: &R,
+    maps: &Maps,
+    size: &str,
+    points: usize,
+    few: u64,
+) -> io::Result<()>
+    requires { points ≤ 256 }
+{
+    let t = clock(None, None);
+    let words = maps.meter(points);
+    let tempo = maps.tempo(points);
+    row(rt, "frame_at_bar", size, bars(points), few, |bar| {
+        match timeline::frame_at_bar(t, bar, words, tempo.nums, tempo.dens, tempo.tempos) {
+            Ok(frame) => frame,
+            Err(why) => refusal_word(why),
+        }
+    })
+}
+
+fn places_row<R: Env + Print>(
+    rt: &R,
+    maps: &Maps,
+    size: &str,
+    points: usize,
+    few: u64,
+) -> io::Result<()>
+    requires { points ≤ 256 }
+{
+    let t = clock(None, None);
+    let words = maps.meter(points);
+    let tempo = maps.tempo(points);
+    row(
+        rt,
+        "places_frame_at_bar",
+        size,
+        bars(points),
+        few,
+        |bar| places::frame_at_bar(t, bar, words, &tempo),
+    )
+}
+
+fn position_row<R: Env + Print>(
+    rt: &R,
+    maps: &Maps,
+    size: &str,
+    points: usize,
+    few: u64,
+) -> io::Result<()>
+    requires { points ≤ 256 }
+{
+    let t = clock(None, None);
+    let words = maps.meter(points);
+    let tempo = maps.tempo(points);
+    let frames = (points as u64 * 17 + 34) * 24000;
+    row(rt, "position_bars", size, frames, few, |frame| {
+        let at = change::sought(t, u64::from(frame));
+        match timeline::position_bars(at, words, tempo.nums, tempo.dens, tempo.tempos) {
+            Ok(x) => rounding::f64_word(x),
+            Err(why) => refusal_word(why),
+        }
+    })
+}
+
 fn main(rt: HostRuntime) -> io::Result<()> {
-    let words = maps::meter_words();
-    let nums = maps::tempo_nums();
-    let dens = maps::tempo_dens();
-    let tempos = maps::tempo_bits();
-    all(&rt, &words, &nums, &dens, &tempos)
+    let maps = Maps {
+        words: &maps::meter_words(),
+        nums: &maps::tempo_nums(),
+        dens: &maps::tempo_dens(),
+        tempos: &maps::tempo_bits(),
+    };
+    clock_rows(&rt)?;
+    frame_row(&rt, &maps, "0", 0, 5000)?;
+    frame_row(&rt, &maps, "128", 128, 1000)?;
+    frame_row(&rt, &maps, "256", 256, 1000)?;
+    places_row(&rt, &maps, "0", 0, 5000)?;
+    places_row(&rt, &maps, "128", 128, 1000)?;
+    places_row(&rt, &maps, "256", 256, 1000)?;
+    position_row(&rt, &maps, "0", 0, 5000)?;
+    position_row(&rt, &maps, "128", 128, 200)?;
+    position_row(&rt, &maps, "256", 256, 50)
 }

@@ -2,14 +2,6 @@
 use beats::Beat;
 use benching::{INPUTS, START, next};
 
-#[derive(Clone, Copy)]
-pub enum Set {
-    Small,
-    Large,
-    Mixed,
-    Grid,
-}
-
 // A fraction of this size, below zero one time in eight.
 fn fraction(size: u64, s: u64, den: u32) -> Beat {
     Beat {
@@ -18,7 +10,7 @@ fn fraction(size: u64, s: u64, den: u32) -> Beat {
     }
 }
 
-fn small(r: u64, s: u64) -> Beat {
+pub fn small(r: u64, s: u64) -> Beat {
     fraction(r % 0x1_0000, s, (s / 8 % 0x100) as u32)
 }
 
@@ -26,20 +18,18 @@ fn wider(r: u64, s: u64) -> Beat {
     fraction(r % 0x8000_0000_0000, s, (s / 8 % 0x1000) as u32)
 }
 
-fn large(r: u64, s: u64) -> Beat {
+pub fn large(r: u64, s: u64) -> Beat {
     fraction(r / 2, s, (s / 8 % 0x1_0000_0000) as u32)
 }
 
 fn lowest(x: Beat) -> Beat {
-    let num = x.num;
-    let den = x.den;
-    Beat::new(num, den)
+    Beat::new(x.num, x.den)
 }
 
-fn mixed(r: u64, s: u64) -> Beat {
+pub fn mixed(r: u64, s: u64) -> Beat {
     match s >> 60 {
         0 => lowest(large(r, s)),
-        1 | 2 | 3 | 4 => lowest(wider(r, s)),
+        1..=4 => lowest(wider(r, s)),
         _ => lowest(small(r, s)),
     }
 }
@@ -47,8 +37,8 @@ fn mixed(r: u64, s: u64) -> Beat {
 // Whole, half and quarter beats are the most frequent.
 fn grid_den(x: u64) -> u32 {
     match x {
-        0 | 1 | 2 | 3 => 1,
-        4 | 5 | 6 => 2,
+        0..=3 => 1,
+        4..=6 => 2,
         7 | 8 => 4,
         9 | 10 => 3,
         11 => 6,
@@ -59,52 +49,32 @@ fn grid_den(x: u64) -> u32 {
     }
 }
 
-fn grid(r: u64, s: u64) -> Beat {
+pub fn grid(r: u64, s: u64) -> Beat {
     lowest(fraction(r % 0x1_0000, s, grid_den(s >> 60)))
 }
 
-fn one_of(set: Set, r: u64, s: u64) -> Beat {
-    match set {
-        Set::Small => small(r, s),
-        Set::Large => large(r, s),
-        Set::Mixed => mixed(r, s),
-        Set::Grid => grid(r, s),
-    }
-}
-
-pub fn fill(set: Set, nums: &mut [i64; INPUTS], dens: &mut [u32; INPUTS]) {
-    let mut r = START;
-    for k in 0..INPUTS {
-        let s = next(r);
-        let x = one_of(set, r, s);
-        let num = x.num;
-        let den = x.den;
-        nums[k] = num;
-        dens[k] = den;
-        r = next(s);
-    }
-}
-
-// A tempo from 64 to 256: the bits of 64, and as many more as two exponents have.
-fn tempo(r: u64) -> f32 {
-    rounding::f32_of(0x4280_0000 + (r % 0x100_0000) as u32)
-}
-
-fn rate(s: u64) -> u32 {
-    match s % 4 {
+// A tempo from 64 to 256, the bits of 64 and as many more as two exponents have; and a rate.
+pub fn speed(r: u64, s: u64) -> (f32, u32) {
+    let rate = match s % 4 {
         0 => 22050,
         1 => 44100,
         2 => 48000,
         _ => 96000,
-    }
+    };
+    (
+        rounding::f32_of(0x4280_0000 + (r % 0x100_0000) as u32),
+        rate,
+    )
 }
 
-pub fn fill_tempos(tempos: &mut [f32; INPUTS], rates: &mut [u32; INPUTS]) {
+// Makes each input.
+pub fn fill<T: Drop, F: Fn(u64, u64) -> T>(inputs: &mut [T; INPUTS], make: F)
+    requires { F.IsAlwaysCallable make }
+{
     let mut r = START;
-    for k in 0..INPUTS {
+    for input in inputs {
         let s = next(r);
-        tempos[k] = tempo(r);
-        rates[k] = rate(s);
+        *input = make(r, s);
         r = next(s);
     }
 }

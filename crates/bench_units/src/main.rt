@@ -21,116 +21,125 @@
 #![tactic(auto)]
 
 mod inputs;
-mod rows;
 
-use benching::INPUTS;
-use inputs::Set;
-use rows::Row;
+use beats::Beat;
+use benching::{FEW, INPUTS, checksum, input_after, input_of, refusal_word};
+use std::cmp::Ordering;
 use std::env::Env;
 use std::io;
 
-// Runs a row, if it is asked, and writes its line.
-fn show(
-    rt: &(impl Env + Print),
-    row: Row,
-    call: &[u8],
-    size: &[u8],
-    nums: &[i64; INPUTS],
-    dens: &[u32; INPUTS],
-    turns: u64,
-) -> io::Result<()> {
-    if benching::asked(rt, call, size) {
-        benching::line(rt, call, size, rows::sum_of(row, nums, dens, turns))?;
+fn beat_word(b: Beat) -> u64 {
+    benching::fraction_word(b.num, b.den)
+}
+
+// A number that no refusal of an order has.
+fn order_word(order: Ordering) -> u64 {
+    match order {
+        Ordering::Less => 3,
+        Ordering::Equal => 4,
+        Ordering::Greater => 5,
     }
-    Ok(())
 }
 
-fn sum_rows(
-    rt: &(impl Env + Print),
-    nums: &[i64; INPUTS],
-    dens: &[u32; INPUTS],
-    turns: u64,
-) -> io::Result<()> {
-    show(
-        rt,
-        Row::CheckedAdd,
-        b"checked_add",
-        b"mixed",
-        nums,
-        dens,
-        turns,
-    )?;
-    show(rt, Row::Add, b"add", b"mixed", nums, dens, turns)
+fn new_word(x: Beat) -> u64 {
+    beat_word(Beat::new(x.num, x.den))
 }
 
-fn order_rows(
-    rt: &(impl Env + Print),
-    nums: &[i64; INPUTS],
-    dens: &[u32; INPUTS],
-    turns: u64,
-) -> io::Result<()> {
-    show(rt, Row::Cmp, b"cmp", b"mixed", nums, dens, turns)?;
-    show(rt, Row::Order, b"order", b"mixed", nums, dens, turns)
-}
-
-fn frame_rows(
-    rt: &(impl Env + Print),
-    nums: &[i64; INPUTS],
-    dens: &[u32; INPUTS],
-    turns: u64,
-) -> io::Result<()> {
-    show(
+// A row of one beat a turn. The loop holds the call alone, and each turn's answer goes into the
+// checksum, so that no call can be left out.
+fn one<R: Env + Print, F: Fn(Beat) -> u64>(
+    rt: &R,
+    call: &str,
+    size: &str,
+    beats: &[Beat; INPUTS],
+    word: F,
+) -> io::Result<()>
+    requires { F.IsAlwaysCallable word }
+{
+    benching::row(
         rt,
-        Row::BeatToFrames,
-        b"beat_to_frames",
-        b"mixed",
-        nums,
-        dens,
-        turns,
-    )?;
-    show(rt, Row::FrameOf, b"frame_of", b"mixed", nums, dens, turns)
-}
-
-fn grid_rows(
-    rt: &(impl Env + Print),
-    nums: &[i64; INPUTS],
-    dens: &[u32; INPUTS],
-    turns: u64,
-) -> io::Result<()> {
-    show(
-        rt,
-        Row::CheckedAdd,
-        b"checked_add",
-        b"grid",
-        nums,
-        dens,
-        turns,
-    )?;
-    show(rt, Row::Cmp, b"cmp", b"grid", nums, dens, turns)?;
-    show(
-        rt,
-        Row::BeatToFrames,
-        b"beat_to_frames",
-        b"grid",
-        nums,
-        dens,
-        turns,
+        call,
+        size,
+        FEW,
+        |turns| checksum(turns, |i| word(beats[input_of(i)])),
     )
 }
 
+// A row of two beats a turn.
+fn two<R: Env + Print, F: Fn(Beat, Beat) -> u64>(
+    rt: &R,
+    call: &str,
+    size: &str,
+    beats: &[Beat; INPUTS],
+    word: F,
+) -> io::Result<()>
+    requires { F.IsAlwaysCallable word }
+{
+    benching::row(rt, call, size, FEW, |turns| {
+        checksum(turns, |i| word(beats[input_of(i)], beats[input_after(i)]))
+    })
+}
+
+// A row of a beat, a tempo and a rate a turn.
+fn frame<R: Env + Print, F: Fn(Beat, f32, u32) -> u64>(
+    rt: &R,
+    call: &str,
+    size: &str,
+    beats: &[Beat; INPUTS],
+    word: F,
+) -> io::Result<()>
+    requires { F.IsAlwaysCallable word }
+{
+    let mut speeds = [(0f32, 0u32); INPUTS];
+    inputs::fill(&mut speeds, inputs::speed);
+    benching::row(rt, call, size, FEW, |turns| {
+        checksum(turns, |i| {
+            let k = input_of(i);
+            let (bpm, rate) = speeds[k];
+            word(beats[k], bpm, rate)
+        })
+    })
+}
+
+fn checked_add(a: Beat, b: Beat) -> u64 {
+    a.checked_add(b).map_or_else(refusal_word, beat_word)
+}
+
+fn cmp(a: Beat, b: Beat) -> u64 {
+    a.cmp(b).map_or_else(refusal_word, order_word)
+}
+
+fn beat_to_frames(beat: Beat, bpm: f32, rate: u32) -> u64 {
+    beats::beat_to_frames(beat, bpm, rate).unwrap_or_else(refusal_word)
+}
+
 fn main(rt: HostRuntime) -> io::Result<()> {
-    let turns = benching::turns(&rt);
-    let mut nums = [0i64; INPUTS];
-    let mut dens = [0u32; INPUTS];
-    inputs::fill(Set::Mixed, &mut nums, &mut dens);
-    show(&rt, Row::Empty, b"empty", b"mixed", &nums, &dens, turns)?;
-    sum_rows(&rt, &nums, &dens, turns)?;
-    order_rows(&rt, &nums, &dens, turns)?;
-    frame_rows(&rt, &nums, &dens, turns)?;
-    inputs::fill(Set::Grid, &mut nums, &mut dens);
-    grid_rows(&rt, &nums, &dens, turns)?;
-    inputs::fill(Set::Small, &mut nums, &mut dens);
-    show(&rt, Row::New, b"new", b"small", &nums, &dens, turns)?;
-    inputs::fill(Set::Large, &mut nums, &mut dens);
-    show(&rt, Row::New, b"new", b"large", &nums, &dens, turns)
+    let mut mixed = [Beat::zero(); INPUTS];
+    inputs::fill(&mut mixed, inputs::mixed);
+    one(&rt, "empty", "mixed", &mixed, beat_word)?;
+    two(&rt, "checked_add", "mixed", &mixed, checked_add)?;
+    two(&rt, "add", "mixed", &mixed, |a, b| {
+        beats::sums::add(a, b).map_or_else(refusal_word, beat_word)
+    })?;
+    two(&rt, "cmp", "mixed", &mixed, cmp)?;
+    two(
+        &rt,
+        "order",
+        "mixed",
+        &mixed,
+        |a, b| order_word(beats::sums::order(a, b)),
+    )?;
+    frame(&rt, "beat_to_frames", "mixed", &mixed, beat_to_frames)?;
+    frame(&rt, "frame_of", "mixed", &mixed, beats::frames::frame_of)?;
+    let mut grid = [Beat::zero(); INPUTS];
+    inputs::fill(&mut grid, inputs::grid);
+    two(&rt, "checked_add", "grid", &grid, checked_add)?;
+    two(&rt, "cmp", "grid", &grid, cmp)?;
+    frame(&rt, "beat_to_frames", "grid", &grid, beat_to_frames)?;
+    let mut small = [Beat::zero(); INPUTS];
+    inputs::fill(&mut small, inputs::small);
+    one(&rt, "new", "small", &small, new_word)?;
+    let mut large = [Beat::zero(); INPUTS];
+    inputs::fill(&mut large, inputs::large);
+    one(&rt, "new", "large", &large, new_word)
 }

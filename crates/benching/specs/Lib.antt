@@ -1,2 +1,3 @@
 pub mod Words
 pub mod Maps
+pub mod Sums

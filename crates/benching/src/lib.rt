@@ -6,8 +6,11 @@
 #![tactic(auto)]
 
 ghost use Rattle.std.specs.Prelude.{◌≡◌, ◌+◌, ◌%◌};
+ghost use Rattle.numbers.specs.Refusals.{number_of};
+ghost use Rattle.benching.specs.Sums.{Summed};
 ghost use Rattle.benching.specs.Words.{next_of, mixed_of, place_of, fraction_word};
 
+use numbers::Refusal;
 use std::env::Env;
 use std::io;
 
@@ -19,7 +22,7 @@ pub mod maps;
 pub const INPUTS: usize = 8192;
 
 // The turns of a row that nobody asked by name: each input twice.
-const FEW: u64 = 16384;
+pub const FEW: u64 = 16384;
 
 // The bytes of the longest argument that is looked at: a longer one counts as empty.
 const LONGEST: usize = 4096;
@@ -42,7 +45,7 @@ pub fn next(x: u64) -> u64
 pub fn mixed(sum: u64, answer: u64) -> u64
     ensures { result ≡ mixed_of sum answer }
 {
-    std::num::wrapping_add_u64(sum << 5 | sum >> 59, answer)
+    sum.rotate_left(5).wrapping_add(answer)
 }
 
 // The index of the input that turn i reads: the inputs come round.
@@ -73,52 +76,67 @@ pub fn place(k: usize) -> u32
 pub fn fraction_word(num: i64, den: u32) -> u64
     ensures { result ≡ fraction_word num den }
 {
-    let sign = numbers::negative(num) as u64;
-    numbers::magnitude(num) ^ sign << 63 ^ (den as u64) << 32
+    num.unsigned_abs() ^ u64::from(num < 0) << 63 ^ u64::from(den) << 32
 }
 
-fn wide(digit: u8) -> u64 {
-    digit as u64
+// The checksum of the answers of so many turns.
+pub fn checksum<F: FnMut(u64) -> u64>(turns: u64, mut answer: F) -> u64
+    requires { F.IsAlwaysCallable answer }
+    ensures { (last : F) × Summed F.step answer turns result last }
+{
+    let mut sum = 0;
+    for i in 0..turns {
+        sum = mixed(sum, answer(i));
+    }
+    sum
 }
 
 // The number that the digits of s say, or the largest there is.
+// Stays: `parse` refuses a word that is no number, and a row takes the low bits of its bytes for digits.
 fn number(s: &[u8]) -> u64 {
-    let mut n = 0;
-    for i in 0..s.len() {
-        let digit = wide(s[i] & 15);
-        n = numbers::saturating_add(numbers::saturating_mul(n, 10), digit);
-    }
-    n
+    s.iter().fold(
+        0u64,
+        |n, b| n.saturating_mul(10).saturating_add(u64::from(b & 15)),
+    )
 }
 
 // Whether argument i is this word.
 fn is_argument(rt: &impl Env, i: usize, word: &[u8]) -> bool {
     let mut buf = [0u8; LONGEST];
-    let n = intake::argument(rt, i, &mut buf);
-    &buf[..n] == word
+    intake::argument(rt, i, &mut buf).unwrap_or(&[]) == word
 }
 
 // Whether this row is to be run.
 pub fn asked(rt: &impl Env, call: &[u8], size: &[u8]) -> bool {
-    if !intake::has_argument(rt, 2) {
-        return true;
-    }
-    if is_argument(rt, 1, call) {
-        is_argument(rt, 2, size)
-    } else {
-        false
-    }
+    !intake::has_argument(rt, 2) || (is_argument(rt, 1, call) && is_argument(rt, 2, size))
 }
 
-// How often a row is to make its call: `few` times where nobody asked it by name, fewer than others
-// where a call of the original's is slow.
+// How often a row is to make its call: `few` times where nobody asked it by name.
 pub fn turns_or(rt: &impl Env, few: u64) -> u64 {
     if !intake::has_argument(rt, 3) {
         return few;
     }
     let mut buf = [0u8; LONGEST];
-    let n = intake::argument(rt, 3, &mut buf);
-    number(&buf[..n])
+    number(intake::argument(rt, 3, &mut buf).unwrap_or(&[]))
+}
+
+// Runs a row, if it is asked, and writes its line: `sum` makes so many turns, and gives the checksum of
+// their answers. Where nobody asked a row by name there are `few` turns, fewer than others have where a
+// call of the original's is slow.
+pub fn row<R: Env + Print, F: FnOnce(u64) -> u64>(
+    rt: &R,
+    call: &str,
+    size: &str,
+    few: u64,
+    sum: F,
+) -> io::Result<()>
+    requires { F.IsAlwaysCallable sum }
+{
+    if asked(rt, call.as_bytes(), size.as_bytes()) {
+        let sum = sum(turns_or(rt, few));
+        println!(rt; "{call} {size} {sum:016x}")?;
+    }
+    Ok(())
 }
 
 pub fn turns(rt: &impl Env) -> u64 {
@@ -131,4 +149,11 @@ pub fn line(rt: &impl Print, call: &[u8], size: &[u8], sum: u64) -> io::Result<(
     rt.write_all(b" ")?;
     rt.write_all(size)?;
     println!(rt; " {sum:016x}")
+}
+
+// The word of a refusal: its number in document 01.
+pub fn refusal_word(why: Refusal) -> u64
+    ensures { result ≡ number_of why }
+{
+    u64::from(u32::from(why))
 }

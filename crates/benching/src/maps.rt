@@ -32,6 +32,8 @@ pub fn meter_words() -> [u32; METER_WORDS]
 {
     let mut map = [0u32; METER_WORDS];
     let mut r = START;
+    // Stays: tried over `chunks_exact_mut(3)`, and `returns` stayed open: what is written through a chunk is
+    // not known afterwards.
     for k in 0..METER_POINTS {
         let s = next(r);
         map[3 * k] = (4 * k) as u32;
@@ -47,8 +49,8 @@ pub fn tempo_nums() -> [i64; TEMPO_POINTS]
     ensures { result ≡ points tempo_num 1024 }
 {
     let mut nums = [0i64; TEMPO_POINTS];
-    for k in 0..TEMPO_POINTS {
-        nums[k] = (4 * k) as i64;
+    for (k, num) in nums.iter_mut().enumerate() {
+        *num = (4 * k) as i64;
     }
     nums
 }
@@ -65,8 +67,8 @@ pub fn tempo_bits() -> [u32; TEMPO_POINTS]
 {
     let mut tempos = [0u32; TEMPO_POINTS];
     let mut r = START;
-    for k in 0..TEMPO_POINTS {
-        tempos[k] = 0x4280_0000 + (r % 0x100_0000) as u32;
+    for tempo in &mut tempos {
+        *tempo = 0x4280_0000 + (r % 0x100_0000) as u32;
         r = next(next(r));
     }
     tempos
@@ -78,8 +80,8 @@ pub fn tempo_bits() -> [u32; TEMPO_POINTS]
 pub fn fill_spread(questions: &mut [u32; INPUTS], span: u64)
     ensures { questions.new ≡ sets questions.old 0 (points (spread_at span) 8192) }
 {
-    for k in 0..INPUTS {
+    for (k, question) in questions.iter_mut().enumerate() {
         let at = place(k) as u64;
-        questions[k] = numbers::to_u32(numbers::saturating_mul(at, span) / 8192);
+        *question = numbers::to_u32(numbers::saturating_mul(at, span) / 8192);
     }
 }

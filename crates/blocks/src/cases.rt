@@ -2,16 +2,7 @@
 // a run lie within 10,000 of its base.
 use crate::random::draw;
 use beats::Beat;
-use meter::Pickup;
 use transport::{LoopRange, PlayState, Transport};
-
-fn plus(a: u64, b: u64) -> u64 {
-    numbers::saturating_add(a, b)
-}
-
-fn one_less(a: u64) -> u64 {
-    if a == 0 { 0 } else { a - 1 }
-}
 
 // The first frame: mostly 0, else halfway, or as late as a run still is in reach.
 pub fn base(r: &mut u64) -> u64 {
@@ -35,16 +26,19 @@ fn span(r: &mut u64) -> u64 {
 fn start(r: &mut u64, end: u64) -> u64 {
     match draw(r, 4) {
         0 => 0,
-        1 => one_less(end),
+        1 => end.saturating_sub(1),
         _ => draw(r, end),
     }
 }
 
-fn loop_of(r: &mut u64, base: u64, span: u64, start: u64, end: u64) -> LoopRange {
+fn loop_of(r: &mut u64, base: u64, span: u64, start: u64, end: u64) -> Option<LoopRange> {
     if span == 0 || draw(r, 3) == 0 {
-        LoopRange::Off
+        None
     } else {
-        LoopRange::On(plus(base, start), plus(base, end))
+        Some(LoopRange {
+            start: base.saturating_add(start),
+            end: base.saturating_add(end),
+        })
     }
 }
 
@@ -53,12 +47,12 @@ fn position(r: &mut u64, span: u64, start: u64, end: u64) -> u64 {
     let at = match draw(r, 8) {
         0 => 0,
         1 => start,
-        2 => one_less(end),
+        2 => end.saturating_sub(1),
         3 => end,
         4 => span,
-        _ => draw(r, plus(span, 1)),
+        _ => draw(r, span.saturating_add(1)),
     };
-    numbers::smaller(at, span)
+    at.min(span)
 }
 
 fn state(r: &mut u64) -> PlayState {
@@ -69,17 +63,17 @@ fn state(r: &mut u64) -> PlayState {
     }
 }
 
-fn pickup(r: &mut u64) -> Pickup {
+fn pickup(r: &mut u64) -> Option<Beat> {
     if draw(r, 2) == 0 {
-        Pickup::Absent
+        None
     } else {
-        Pickup::Present(Beat { num: 3, den: 2 })
+        Some(Beat { num: 3, den: 2 })
     }
 }
 
 pub fn clock(r: &mut u64, base: u64) -> Transport {
     let span = span(r);
-    let end = plus(draw(r, span), 1);
+    let end = draw(r, span).saturating_add(1);
     let start = start(r, end);
     let looping = loop_of(r, base, span, start, end);
     let position = position(r, span, start, end);
@@ -89,8 +83,8 @@ pub fn clock(r: &mut u64, base: u64) -> Transport {
         sample_rate: 48000,
         bpm: 120.0f32,
         beats_per_bar: 4,
-        length: plus(base, span),
-        position: plus(base, position),
+        length: base.saturating_add(span),
+        position: base.saturating_add(position),
         state,
         looping,
         pickup,
@@ -99,15 +93,14 @@ pub fn clock(r: &mut u64, base: u64) -> Transport {
 
 // A frame of a transport that a line may well stand at.
 fn edge(t: Transport, which: u64) -> u64 {
-    let looping = t.looping;
-    match looping {
-        LoopRange::Off => match which {
+    match t.looping {
+        None => match which {
             0 => t.position,
             _ => t.length,
         },
-        LoopRange::On(start, end) => match which {
+        Some(LoopRange { start, end }) => match which {
             0 => start,
-            1 => one_less(end),
+            1 => end.saturating_sub(1),
             2 => end,
             _ => t.position,
         },
@@ -126,20 +119,18 @@ fn line(r: &mut u64, t: Transport, before: u64) -> u64 {
     if draw(r, 2) == 0 && at >= before {
         at
     } else {
-        plus(before, far)
+        before.saturating_add(far)
     }
 }
 
 pub fn lines(r: &mut u64, t: Transport, base: u64) -> [u64; 8] {
-    let a = line(r, t, base);
-    let b = line(r, t, a);
-    let c = line(r, t, b);
-    let d = line(r, t, c);
-    let e = line(r, t, d);
-    let f = line(r, t, e);
-    let g = line(r, t, f);
-    let h = line(r, t, g);
-    [a, b, c, d, e, f, g, h]
+    let mut lines = [0; 8];
+    let mut before = base;
+    for next in &mut lines {
+        before = line(r, t, before);
+        *next = before;
+    }
+    lines
 }
 
 // The frames of a block: 0, 1, 64, 512, or an odd number up to 799.
@@ -155,24 +146,16 @@ fn size(r: &mut u64) -> u64 {
 }
 
 pub fn sizes(r: &mut u64) -> [u64; 8] {
-    let a = size(r);
-    let b = size(r);
-    let c = size(r);
-    let d = size(r);
-    let e = size(r);
-    let f = size(r);
-    let g = size(r);
-    let h = size(r);
-    [a, b, c, d, e, f, g, h]
+    let mut sizes = [0; 8];
+    for next in &mut sizes {
+        *next = size(r);
+    }
+    sizes
 }
 
 // The frames of all blocks.
 pub fn frames(sizes: &[u64]) -> u64 {
-    let mut sum = 0;
-    let mut k = 0;
-    while k < sizes.len() {
-        sum = plus(sum, sizes[k]);
-        k += 1;
-    }
-    sum
+    sizes
+        .iter()
+        .fold(0, |sum: u64, size| sum.saturating_add(*size))
 }

@@ -9,9 +9,9 @@ mod random;
 mod same;
 mod walk;
 
-use cues::{CueAnswer, CueReport};
+use cues::Cued;
 use std::io;
-use transport::Transport;
+use transport::{Handed, Transport};
 use walk::Walk;
 
 const RUNS: u64 = 100_000;
@@ -39,59 +39,50 @@ struct Tally {
 }
 
 fn one_more(n: u64, yes: bool) -> u64 {
-    if yes {
-        numbers::saturating_add(n, 1)
-    } else {
-        n
-    }
+    n.saturating_add(u64::from(yes))
 }
 
 fn counted(tally: Tally, run: Outcome) -> Tally {
     Tally {
         wraps: one_more(tally.wraps, run.wrapped),
         finishes: one_more(tally.finishes, run.finished),
-        blocks: numbers::saturating_add(tally.blocks, run.blocks),
-        cues: numbers::saturating_add(tally.cues, run.cues),
+        blocks: tally.blocks.saturating_add(run.blocks),
+        cues: tally.cues.saturating_add(run.cues),
         differences: one_more(tally.differences, !run.same),
     }
 }
 
-// Whether the blocks went as the whole did, which left this transport and wrote so many words.
-fn matches(walk: Walk, end: Transport, wrapped: bool, finished: bool, words: u64) -> bool {
-    let same = walk.same;
-    let next = walk.transport;
-    same && walk.words == words
-        && walk.wrapped == wrapped
-        && walk.finished == finished
-        && same::transports(next, end)
+// Whether the blocks went as the whole did, which left this transport and said this.
+fn matches(walk: Walk, end: Transport, whole: Cued) -> bool {
+    walk.same
+        && walk.words == (whole.count as u64).saturating_mul(2)
+        && walk.wrapped == whole.wrapped
+        && walk.finished == whole.finished
+        && walk.transport == end
 }
 
 // Runs the blocks behind the whole, which gave this answer.
 fn compared(
-    answer: CueAnswer,
+    whole_run: Handed<Cued>,
     t: Transport,
     lines: &[u64],
     sizes: &[u64],
     whole: &[u64; ROOM],
     part: &mut [u64; ROOM],
 ) -> Outcome {
-    let end = answer.transport;
-    let report = answer.report;
     let blocks = sizes.len() as u64;
-    match report {
-        CueReport::Cued(wrapped, finished, n) => {
-            let cues = n as u64;
-            let words = numbers::saturating_mul(cues, 2);
+    match whole_run.answer {
+        Ok(cued) => {
             let walk = walk::blocks(t, lines, sizes, whole, part);
             Outcome {
-                same: matches(walk, end, wrapped, finished, words),
-                wrapped,
-                finished,
+                same: matches(walk, whole_run.transport, cued),
+                wrapped: cued.wrapped,
+                finished: cued.finished,
                 blocks,
-                cues,
+                cues: cued.count as u64,
             }
         }
-        _ => Outcome {
+        Err(_) => Outcome {
             same: false,
             wrapped: false,
             finished: false,
@@ -108,7 +99,7 @@ fn run(r: &mut u64, whole: &mut [u64; ROOM], part: &mut [u64; ROOM]) -> Outcome 
     let lines = cases::lines(r, t, base);
     let sizes = cases::sizes(r);
     let few = random::draw(r, 9) as usize;
-    let blocks = numbers::saturating_add(random::draw(r, 8), 1) as usize;
+    let blocks = random::draw(r, 8).saturating_add(1) as usize;
     let lines = same::between(&lines, 0, few);
     let sizes = same::between(&sizes, 0, blocks);
     let answer = cues::cue(t, lines, cases::frames(sizes), whole);
@@ -130,10 +121,8 @@ fn main(rt: HostRuntime) -> io::Result<()> {
         cues: 0,
         differences: 0,
     };
-    let mut left = RUNS;
-    while left > 0 {
+    for _ in 0..RUNS {
         tally = counted(tally, run(&mut r, &mut whole, &mut part));
-        left -= 1;
     }
     number(&rt, RUNS, " runs, ")?;
     number(&rt, tally.blocks, " blocks, ")?;

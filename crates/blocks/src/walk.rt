@@ -1,7 +1,6 @@
 // A run block by block, each cued on the transport that the block before handed back.
 use crate::{ROOM, same};
-use cues::CueReport;
-use transport::Transport;
+use transport::{Handed, Transport};
 
 #[derive(Clone, Copy)]
 pub struct Walk {
@@ -16,40 +15,26 @@ pub struct Walk {
     pub same: bool,
 }
 
-fn refused(walk: Walk) -> Walk {
-    let transport = walk.transport;
-    Walk {
-        transport,
-        time: walk.time,
-        words: walk.words,
-        wrapped: walk.wrapped,
-        finished: walk.finished,
-        same: false,
-    }
-}
-
 // Past one block more.
 fn next(walk: Walk, lines: &[u64], size: u64, whole: &[u64], part: &mut [u64; ROOM]) -> Walk {
-    let before = walk.transport;
-    let answer = cues::cue(before, lines, size, part);
-    let transport = answer.transport;
-    let report = answer.report;
-    match report {
-        CueReport::Cued(wrapped, finished, n) => {
-            let n = numbers::saturating_mul(n as u64, 2);
-            let words = numbers::saturating_add(walk.words, n);
-            let mine = same::between(part, 0, n as usize);
-            let theirs = same::between(whole, walk.words as usize, words as usize);
-            Walk {
-                transport,
-                time: numbers::saturating_add(walk.time, size),
-                words,
-                wrapped: walk.wrapped || wrapped,
-                finished: walk.finished || finished,
-                same: walk.same && same::cues(theirs, mine, walk.time),
-            }
-        }
-        _ => refused(walk),
+    let Handed { transport, answer } = cues::cue(walk.transport, lines, size, part);
+    let Ok(cued) = answer else {
+        return Walk {
+            same: false,
+            ..walk
+        };
+    };
+    let n = cued.count.saturating_mul(2);
+    let words = walk.words.saturating_add(n as u64);
+    let mine = same::between(part, 0, n);
+    let theirs = same::between(whole, walk.words as usize, words as usize);
+    Walk {
+        transport,
+        time: walk.time.saturating_add(size),
+        words,
+        wrapped: walk.wrapped || cued.wrapped,
+        finished: walk.finished || cued.finished,
+        same: walk.same && same::cues(theirs, mine, walk.time),
     }
 }
 
@@ -68,10 +53,8 @@ pub fn blocks(
         finished: false,
         same: true,
     };
-    let mut k = 0;
-    while k < sizes.len() {
-        walk = next(walk, lines, sizes[k], whole, part);
-        k += 1;
+    for &size in sizes {
+        walk = next(walk, lines, size, whole, part);
     }
     walk
 }

@@ -12,7 +12,8 @@ use Rattle.transport.specs.declared.PlayState.TheVariants.{Stopped, Playing, Pau
 use Rattle.transport.specs.declared.Transport.{Transport}
 use Rattle.transport.specs.Transports.{sound, moved_to}
 use Rattle.transport.proofs.Laws.{sound_position}
-use Rattle.clock_words.specs.Clocks.{short, clock_words, unfit, transport_of, clock_of, state_word, placed}
+use Rattle.transport.specs.Words.{state_word}
+use Rattle.clock_words.specs.Clocks.{short, clock_words, unfit, transport_of, clock_of, placed}
 use Rattle.clock_words.proofs.Words.{reads, reads_none}
 
 -- words that are no clock are unsound

@@ -11,7 +11,6 @@ use mir.Syntax.{w64}
 use mir.Val.{SFits, to_z, of_z}
 use mir.ValLaws.{to_z-of_z}
 use Rattle.numbers.proofs.Laws.{both}
-use Rattle.meter.specs.declared.Pickup.TheVariants.{Absent, Present}
 use Rattle.clock_words.specs.Clocks.{clock_words, pickup_of, unfit, transport_of, clock_of}
 
 -- the words that are read as 32 bits
@@ -47,19 +46,3 @@ reads words h = rw h
 pub reads_none : (words : List ℕ) → clock_words words ≡ false → clock_of words ≡ unfit
 unfolding clock_of
 reads_none words h = rw h
-
--- ---- a pickup
-
-module _ (num : ℤ) (den : ℕ) (fits : SFits w64 num) where
-  pub over_den : (den ≡ 0 → ⊥) → Present (record { num = to_z w64 (of_z w64 num); den = den }) ≡ pickup_of num den
-  over_den h = rw (to_z-of_z w64 num fits, ne_eqb den 0 h)
-
-  module _ (size : ℕ) (is : size ≡ nat_abs (to_z w64 (of_z w64 num))) (none : den ≡ 0) where
-    sized : size ≡ nat_abs num
-    sized = rw (to_z-of_z w64 num fits) at is
-
-    pub over_none : (size ≡ 0 → ⊥) → Present (record { num = to_z w64 (of_z w64 num); den = den }) ≡ pickup_of num den
-    over_none h = rw (to_z-of_z w64 num fits, eq-eqb den 0 none, ne_eqb (nat_abs num) 0 (rw sized at h))
-
-    pub absent : size ≡ 0 → Absent ≡ pickup_of num den
-    absent h = rw (eq-eqb den 0 none, eq-eqb (nat_abs num) 0 (rw sized at h))

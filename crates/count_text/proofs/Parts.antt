@@ -1,15 +1,16 @@
 -- The parts of the lines, put one behind another, and how long they are at most.
 use mathlib.Core.Path.{◌≡◌, ap}
 use mathlib.Core.Bool.{Bool, true, false}
-use mathlib.Core.List.{List, [], ◌∷◌, ◌++◌}
+use mathlib.Core.List.{[], ◌∷◌, ◌++◌}
 use Prim.Native.Nat.{ℕ, min, ◌+◌, ◌-◌, ◌≤◌, ◌<◌}
 use native.Mathlib.Numerals.{add-one}
-use native.Mathlib.Omega.{arith}
 use borrow.Author.Tests.{lt-leb, le-leb, eq-eqb, ne_eqb}
 use lib.ListN.{length}
 use Rattle.beats.specs.declared.Beat.{Beat}
-use Rattle.text.specs.Texts.{Puts, decimal, beat_text}
-use Rattle.text.proofs.Laws.{nothing, behind, retext}
+use Rattle.text.specs.declared.page.Page.{Page}
+use Rattle.text.specs.Texts.{decimal, beat_text}
+use Rattle.text.specs.Pages.{Appends}
+use Rattle.text.proofs.Laws.{append_nothing, append_behind, append_as}
 use Rattle.count_text.specs.Answers.{more_text, amount_text, unit_text, to_beat_text, count_line, sure_text, unsure_text, fits_line, repeated, row_text, over_word, over_text, row_line, lines_text}
 
 -- ---- the count
@@ -32,11 +33,10 @@ module _ (count : ℕ) where
   unfolding unit_text
   more_bars n = simp (ne_eqb count 1 n)
 
-  pub count_put : (beat : Beat) {at p q r s u : ℕ} {o₀ o₁ o₂ o₃ o₄ o₅ : List ℕ} → at ≤ length o₀
-      → Puts at (amount_text count 0) o₀ p o₁ → Puts p (unit_text count) o₁ q o₂ → Puts q to_beat_text o₂ r o₃ → Puts r (beat_text beat) o₃ s o₄
-      → Puts s (10 ∷ []) o₄ u o₅ → Puts at (count_line count beat) o₀ u o₅
+  pub count_put : {p : Page} → p.place ≤ length p.out.now → (beat : Beat) {q r s t u : Page} → Appends (amount_text count 0) p q → Appends (unit_text count) q r → Appends to_beat_text r s
+      → Appends (beat_text beat) s t → Appends (10 ∷ []) t u → Appends (count_line count beat) p u
   unfolding count_line
-  count_put beat h a b c d e = behind h (behind h (behind h (behind h a b) c) d) e
+  count_put h beat a b c d e = append_behind (append_behind (append_behind (append_behind a b h) c h) d h) e h
 
 -- ---- whether it is sure
 
@@ -50,38 +50,34 @@ unsure fits e = simp e
 
 -- ---- the row
 
-pub no_squares : (square : ℕ) (out : List ℕ) (at : ℕ) → Puts at (repeated square 0) out at out
+pub no_squares : (square : ℕ) (page : Page) → Appends (repeated square 0) page page
 unfolding repeated
-no_squares square = nothing
+no_squares square = append_nothing
 
-pub one_square : (square count : ℕ) {at p r : ℕ} {out mid after : List ℕ} → at ≤ length out
-    → Puts at (repeated square count) out p mid → Puts p (square ∷ []) mid r after → Puts at (repeated square (count + 1)) out r after
+pub one_square : (square count : ℕ) {p q r : Page} → p.place ≤ length p.out.now → Appends (repeated square count) p q → Appends (square ∷ []) q r → Appends (repeated square (count + 1)) p r
 unfolding repeated
-one_square square count h x y = retext (rw (add-one count)) (behind h x y)
+one_square square count h x y = append_as (rw (add-one count)) (append_behind x y h)
 
 module _ (count : ℕ) where
-  pub row_put : {full at p q r u : ℕ} {o₀ o₁ o₂ o₃ o₄ : List ℕ} → full ≡ min count 20 → at ≤ length o₀
-      → Puts at (91 ∷ []) o₀ p o₁ → Puts p (repeated 35 full) o₁ q o₂ → Puts q (repeated 46 (20 - full)) o₂ r o₃ → Puts r (93 ∷ []) o₃ u o₄
-      → Puts at (row_text count) o₀ u o₄
-  unfolding row_text
-  row_put {full} e h a b c d =
-      retext (ap (λ (k : ℕ). (((91 ∷ []) ++ repeated 35 k) ++ repeated 46 (20 - k)) ++ (93 ∷ [])) e) (behind h (behind h (behind h a b) c) d)
-
-  pub none_over : (out : List ℕ) (at : ℕ) → count ≤ 20 → Puts at (over_text count) out at out
+  pub none_over : (page : Page) → count ≤ 20 → Appends (over_text count) page page
   unfolding over_text
-  none_over out at h = retext (simp (le-leb count 20 h)) (nothing out at)
+  none_over page h = append_as (simp (le-leb count 20 h)) (append_nothing page)
 
-  pub some_over : {at p q u : ℕ} {o₀ o₁ o₂ o₃ : List ℕ} → 20 < count → at ≤ length o₀
-      → Puts at (32 ∷ []) o₀ p o₁ → Puts p (amount_text count 20) o₁ q o₂ → Puts q over_word o₂ u o₃ → Puts at (over_text count) o₀ u o₃
-  unfolding over_text
-  some_over h room a b c = retext (simp (lt-leb count 20 h)) (behind room (behind room a b) c)
+  module _ {p : Page} (h : p.place ≤ length p.out.now) where
+    pub row_put : {full : ℕ} {q r s t : Page} → full ≡ min count 20 → Appends (91 ∷ []) p q → Appends (repeated 35 full) q r → Appends (repeated 46 (20 - full)) r s → Appends (93 ∷ []) s t
+        → Appends (row_text count) p t
+    unfolding row_text
+    row_put {full} e a b c d =
+        append_as (ap (λ (k : ℕ). (((91 ∷ []) ++ repeated 35 k) ++ repeated 46 (20 - k)) ++ (93 ∷ [])) e) (append_behind (append_behind (append_behind a b h) c h) d h)
 
-  pub row_line_put : {at p q u : ℕ} {o₀ o₁ o₂ o₃ : List ℕ} → at ≤ length o₀
-      → Puts at (row_text count) o₀ p o₁ → Puts p (over_text count) o₁ q o₂ → Puts q (10 ∷ []) o₂ u o₃ → Puts at (row_line count) o₀ u o₃
-  unfolding row_line
-  row_line_put h a b c = behind h (behind h a b) c
+    pub some_over : {q r s : Page} → 20 < count → Appends (32 ∷ []) p q → Appends (amount_text count 20) q r → Appends over_word r s → Appends (over_text count) p s
+    unfolding over_text
+    some_over m a b c = append_as (simp (lt-leb count 20 m)) (append_behind (append_behind a b h) c h)
 
-  pub lines_put : (fits : Bool) (beat : Beat) {p q u : ℕ} {o₀ o₁ o₂ o₃ : List ℕ}
-      → Puts 0 (count_line count beat) o₀ p o₁ → Puts p (fits_line fits) o₁ q o₂ → Puts q (row_line count) o₂ u o₃ → Puts 0 (lines_text count fits beat) o₀ u o₃
-  unfolding lines_text
-  lines_put fits beat a b c = behind (omega arith) (behind (omega arith) a b) c
+    pub row_line_put : {q r s : Page} → Appends (row_text count) p q → Appends (over_text count) q r → Appends (10 ∷ []) r s → Appends (row_line count) p s
+    unfolding row_line
+    row_line_put a b c = append_behind (append_behind a b h) c h
+
+    pub lines_put : (fits : Bool) (beat : Beat) {q r s : Page} → Appends (count_line count beat) p q → Appends (fits_line fits) q r → Appends (row_line count) r s → Appends (lines_text count fits beat) p s
+    unfolding lines_text
+    lines_put fits beat a b c = append_behind (append_behind a b h) c h

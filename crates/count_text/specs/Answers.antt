@@ -1,16 +1,14 @@
 -- What the drummer is told of a file and a beat, byte by byte.
-use Rattle.std.specs.Prelude.{Bool, cond, List, [], ◌∷◌, ◌++◌, ℕ, zero, suc, min, ◌-◌, leb, eqb}
+use Rattle.std.specs.Prelude.{Bool, Option, Result, Ok, Err, cond, List, [], ◌∷◌, ◌++◌, ℕ, zero, suc, min, ◌-◌, leb, eqb}
 use Rattle.beats.specs.declared.Beat.{Beat}
 use Rattle.meter.specs.declared.MeterPoint.{MeterPoint}
-use Rattle.meter.specs.declared.Pickup.{Pickup}
 use Rattle.meter.specs.Meters.{points_of}
 use Rattle.meter.specs.Counts.{count_at}
 use Rattle.meter.specs.Fits.{last_bar}
 use Rattle.fits.specs.Decision.{fits_bool}
 use Rattle.score.specs.Format.{is_score, score_of, meter_words}
 use Rattle.score.specs.Answers.{refusal_text}
-use Rattle.spelling.specs.declared.BeatWord.{BeatWord}
-use Rattle.spelling.specs.declared.BeatWord.TheVariants.{Read, NotNumber, NotBeat}
+use Rattle.spelling.specs.declared.BeatError.{BeatError}
 use Rattle.spelling.specs.Words.{beat_of}
 use Rattle.text.specs.Texts.{decimal, beat_text}
 
@@ -86,16 +84,15 @@ lines_text count fits beat = (count_line count beat ++ fits_line fits) ++ row_li
 abbrev pub not_beat_text : List ℕ
 not_beat_text = 114 ∷ 101 ∷ 102 ∷ 117 ∷ 115 ∷ 101 ∷ 100 ∷ 32 ∷ 49 ∷ 10 ∷ []
 
-module _ (map : List MeterPoint) (default : ℕ) (pickup : Pickup) where
+module _ (map : List MeterPoint) (default : ℕ) (pickup : Option Beat) where
   -- the count of bars up to a beat, and whether the score fits
   unfoldable pub answer_text : Beat → List ℕ
   answer_text beat = lines_text (count_at map default pickup beat) (fits_bool map default pickup) beat
 
   -- `refused 1` for a word that is no beat
-  unfoldable pub asked_text : BeatWord → List ℕ
-  asked_text (Read beat) = answer_text beat
-  asked_text NotNumber = not_beat_text
-  asked_text NotBeat = not_beat_text
+  unfoldable pub asked_text : Result Beat BeatError → List ℕ
+  asked_text (Ok beat) = answer_text beat
+  asked_text (Err why) = not_beat_text
 
 -- the answer for a score file and a word, and of other bytes the refusal alone, whatever the word is
 unfoldable pub count_text : List ℕ → List ℕ → List ℕ

@@ -3,15 +3,35 @@
 // printed.
 #![tactic(auto)]
 
-ghost use Rattle.std.specs.Prelude.{◌≡◌, ◌≤◌, length, take};
+ghost use Rattle.std.specs.Prelude.{◌≡◌, ◌+◌, ◌≤◌, length, take};
 ghost use Rattle.text.specs.Texts.{Puts};
+ghost use Rattle.text.specs.Pages.{Appends};
 ghost use Rattle.count_text.specs.Answers.{count_text};
 
-use score::ScoreAnswer;
-use text::put;
+use score::{Music, Points};
+use text::Page;
 
 mod lines;
 mod points;
+
+// The answer for a score file and the text of a beat, or the refusal.
+fn count(page: &mut Page, file: &[u8], word: &[u8])
+    requires { page.old.place + 193 ≤ length page.old.out.now }
+    ensures puts { Appends (count_text file.now word.now) page.old page.new }
+    ensures upper_bound { page.new.place ≤ page.old.place + 193 }
+{
+    let mut points = Points::new();
+    match score::read_score(file, &mut points) {
+        Ok(score) => {
+            let music = Music {
+                score,
+                points: &points,
+            };
+            points::asked(page, &music.meter_map(), word)
+        }
+        Err(_) => page.bytes(b"refused 13\n"),
+    }
+}
 
 // Writes the answer for a score file and the text of a beat, or the refusal of other bytes (13) or
 // of another word (1), and answers how many bytes it has. The second promise lets a caller cut the
@@ -20,12 +40,7 @@ pub fn count_of(file: &[u8], word: &[u8], out: &mut [u8; 1024]) -> usize
     ensures puts { Puts 0 (count_text file.now word.now) out.old result out.new }
     ensures upper_bound { (result ≤ length out.new) × (result ≡ length (take result out.new)) }
 {
-    let mut meter = [0u32; 768];
-    let mut nums = [0i64; 1024];
-    let mut dens = [0u32; 1024];
-    let mut bpms = [0u32; 1024];
-    match score::read_score(file, &mut meter, &mut nums, &mut dens, &mut bpms) {
-        ScoreAnswer::BadFile => put::bytes(out, 0, b"refused 13\n"),
-        ScoreAnswer::Read(score) => points::asked(out, score, &meter, word),
-    }
+    let mut page = Page::new(out);
+    count(&mut page, file, word);
+    page.place
 }

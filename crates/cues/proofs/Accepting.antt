@@ -1,11 +1,5 @@
 -- With fine lines, in reach, only 8 is left to refuse a block: by its own cues. It goes block by block.
-use mathlib.Core.Path.{◌≡◌, refl, sym, ap, ◌∙◌}
-use mathlib.Core.Bool.{Bool, true, false, cond, ◌&&◌}
-use mathlib.Core.List.{List, [], ◌∷◌}
-use Prim.Native.Nat.{ℕ, ◌+◌, ◌-◌, ◌/◌, ◌^◌}
-use native.Mathlib.Omega.{arith}
-use borrow.Author.Tests.{le-leb}
-use lib.ListN.{length}
+use Rattle.std.proofs.Common.{◌≡◌, refl, sym, ap, ◌∙◌, Bool, true, false, cond, ◌&&◌, List, [], ◌∷◌, ℕ, ◌+◌, ◌-◌, ◌/◌, ◌^◌, arith, le-leb, length}
 use Rattle.numbers.specs.Answers.{Answer, accepted, refused, is_accepted}
 use Rattle.numbers.proofs.Laws.{cases}
 use Rattle.transport.specs.declared.playhead.Run.{Run}

@@ -1,13 +1,7 @@
 -- A run cut into blocks. An accepted call says what `cues` and `advanced` say, for these a cut changes nothing, and so it goes block by block.
 -- That it is accepted shows too that the transport is sound and the block in reach.
-use mathlib.Core.Path.{◌≡◌, refl, sym, ap, ◌∙◌}
-use mathlib.Core.Bool.{Bool, true, false, cond, ◌||◌, or-false}
-use mathlib.Core.List.{List, [], ◌∷◌, ◌++◌, map, append-nil}
-use Prim.Native.Nat.{ℕ, ◌+◌, ◌-◌, ◌^◌}
-use native.Mathlib.Nat.{add-zero}
-use native.Mathlib.Omega.{arith}
-use borrow.Author.Tests.{leb-true}
-use lib.ListN.{length, drop}
+use Rattle.std.proofs.Common.{◌≡◌, refl, sym, ap, ◌∙◌, Bool, true, false, cond, ◌||◌, List, [], ◌∷◌, ◌++◌, map, append-nil, ℕ, ◌+◌, ◌-◌, ◌^◌, add-zero, arith, leb-true, length, drop}
+use mathlib.Core.Bool.{or-false}
 use Rattle.numbers.specs.Answers.{Answer, accepted, refused, given, over, is_accepted, then}
 use Rattle.numbers.proofs.Laws.{never, and_left, and_right}
 use Rattle.transport.specs.declared.Transport.{Transport}
@@ -62,8 +56,8 @@ module _ (lines : List ℕ) where
   pub record Says (t : Transport) (block : Block) : Type 0 where
     pub cues_are : cues_in lines t block ≡ cues lines t block.frames
     pub next_is : next lines t block ≡ (advanced t block.frames).transport
-    pub wraps_is : (said_to lines t block).wrapped ≡ (advanced t block.frames).wrapped
-    pub finishes_is : (said_to lines t block).finished ≡ (advanced t block.frames).finished
+    pub wraps_is : (said_to lines t block).wrapped ≡ (advanced t block.frames).moves.wrapped
+    pub finishes_is : (said_to lines t block).finished ≡ (advanced t block.frames).moves.finished
 
   module _ (t : Transport) (block : Block) where
     abbrev test : Answer Unit
@@ -100,8 +94,8 @@ module _ (lines : List ℕ) where
   one_block t block s = record {
     run_cues = append-nil (cues_in lines t block) ∙ s.cues_are ∙ ap (cues lines t) all;
     run_end = s.next_is ∙ ap (λ (n : ℕ). (advanced t n).transport) all;
-    run_wrap = or-false (said_to lines t block).wrapped ∙ s.wraps_is ∙ ap (λ (n : ℕ). (advanced t n).wrapped) all;
-    run_finish = or-false (said_to lines t block).finished ∙ s.finishes_is ∙ ap (λ (n : ℕ). (advanced t n).finished) all;
+    run_wrap = or-false (said_to lines t block).wrapped ∙ s.wraps_is ∙ ap (λ (n : ℕ). (advanced t n).moves.wrapped) all;
+    run_finish = or-false (said_to lines t block).finished ∙ s.finishes_is ∙ ap (λ (n : ℕ). (advanced t n).moves.finished) all;
   }
     where
       all : block.frames ≡ block.frames + 0
@@ -116,8 +110,8 @@ module _ (lines : List ℕ) where
         ∙ ap (λ (others : List Cue). cues lines t block.frames ++ map (later block.frames) others) j.run_cues
         ∙ sym (cues_on lines t block.frames (frames_in rest) is h);
     run_end = ap (λ (u : Transport). last_transport lines u rest) s.next_is ∙ j.run_end ∙ sym whole.ends;
-    run_wrap = (λ i. s.wraps_is i || some_wraps lines (s.next_is i) rest) ∙ ap (λ (q : Bool). (advanced t block.frames).wrapped || q) j.run_wrap ∙ sym whole.wraps;
-    run_finish = (λ i. s.finishes_is i || some_finishes lines (s.next_is i) rest) ∙ ap (λ (q : Bool). (advanced t block.frames).finished || q) j.run_finish ∙ sym whole.finishes;
+    run_wrap = (λ i. s.wraps_is i || some_wraps lines (s.next_is i) rest) ∙ ap (λ (q : Bool). (advanced t block.frames).moves.wrapped || q) j.run_wrap ∙ sym whole.wraps;
+    run_finish = (λ i. s.finishes_is i || some_finishes lines (s.next_is i) rest) ∙ ap (λ (q : Bool). (advanced t block.frames).moves.finished || q) j.run_finish ∙ sym whole.finishes;
   }
     where
       whole : Composes t block.frames (frames_in rest)
@@ -147,6 +141,6 @@ by_blocks lines t whole first rest same ok oks =
       sounded_cues = s.cues_are;
       same_cues = s.cues_are ∙ ap (cues lines t) same ∙ sym j.run_cues;
       same_end = s.next_is ∙ ap (λ (n : ℕ). (advanced t n).transport) same ∙ sym j.run_end;
-      same_wrap = s.wraps_is ∙ ap (λ (n : ℕ). (advanced t n).wrapped) same ∙ sym j.run_wrap;
-      same_finish = s.finishes_is ∙ ap (λ (n : ℕ). (advanced t n).finished) same ∙ sym j.run_finish;
+      same_wrap = s.wraps_is ∙ ap (λ (n : ℕ). (advanced t n).moves.wrapped) same ∙ sym j.run_wrap;
+      same_finish = s.finishes_is ∙ ap (λ (n : ℕ). (advanced t n).moves.finished) same ∙ sym j.run_finish;
     }

@@ -1,16 +1,7 @@
 -- The cues of a run are exactly the bar lines sounded, in playing order. It goes time by time, and at each time line by line.
-use mathlib.Core.Path.{◌≡◌, refl, sym, ap, subst, ◌∙◌}
-use mathlib.Core.Bool.{Bool, true, false, cond}
+use Rattle.std.proofs.Common.{◌≡◌, refl, sym, ap, subst, ◌∙◌, Bool, true, false, cond, List, [], ◌∷◌, ◌++◌, inl, inr, ⊎_elim, ℕ, zero, suc, ◌+◌, ◌<◌, add-zero, zero-add, arith, eqb-true, eq-eqb, eqb, length, get_or}
+use Rattle.std.proofs.Math.Option.{Option, none, some}
 use mathlib.Core.List.Memᴰ
-use mathlib.Core.List.{List, [], ◌∷◌, ◌++◌}
-use mathlib.Core.Logic.{inl, inr, ⊎_elim}
-use mathlib.Core.Option.{Option, none, some}
-use Prim.Native.Nat.{ℕ, zero, suc, ◌+◌, ◌<◌}
-use native.Mathlib.Nat.{add-zero, zero-add}
-use native.Mathlib.Omega.{arith}
-use borrow.Author.Tests.{eqb-true, eq-eqb}
-use lib.Dec.{eqb}
-use lib.ListN.{length, get_or}
 use Rattle.numbers.proofs.Laws.{by_order}
 use Rattle.transport.specs.declared.Transport.{Transport}
 use Rattle.transport.specs.Transports.{playing}
@@ -103,7 +94,7 @@ module _ (lines : List ℕ) (t : Transport) where
       (λ before. let s = sounds time cue before in record { in_run = omega arith; in_list = s.in_list; plays = s.plays; goes_on = s.goes_on; stands_on = s.stands_on })
       (λ now.
       let a = at_time lines time (sounded_at t time) cue now in
-      let s = sounded_by (get_or lines cue.1 0) (playing t.state) (advanced t time).finished (advanced t time).transport.position a.2 in
+      let s = sounded_by (get_or lines cue.1 0) (playing t.state) (advanced t time).moves.finished (advanced t time).transport.position a.2 in
       record {
         in_run = omega arith;
         in_list = a.1;

@@ -1,38 +1,31 @@
 -- The three stretches of a plan, counted, and written one after the other.
-use mathlib.Core.Path.{◌≡◌, refl, sym, ap, ◌∙◌}
-use mathlib.Core.Bool.{Bool, true, false, cond}
-use mathlib.Core.List.{List, ◌++◌}
-use Prim.Native.Nat.{ℕ, ◌+◌, ◌*◌, ◌/◌, ◌≤◌, ◌<◌}
-use native.Mathlib.Nat.{zero-add, div-mul-le_self}
-use native.Mathlib.Omega.{arith}
-use borrow.Author.Tests.{leb-true, leb-false, le-leb, lt-leb}
-use lib.Dec.{leb}
-use lib.ListN.{length, drop, length-append}
-use lib.Seq.{sets, sets-eq, length-sets}
+use Rattle.std.proofs.Common.{◌≡◌, refl, sym, ap, ◌∙◌, Bool, true, false, cond, List, ◌++◌, ℕ, ◌+◌, ◌*◌, ◌/◌, ◌≤◌, ◌<◌, zero-add, div-mul-le_self, arith, leb-true, leb-false, le-leb, leb, length, drop, length-append}
+use Rattle.std.proofs.lemmas.Bool.{lt-leb}
+use Rattle.std.proofs.lemmas.List.Edits.{sets, sets-eq}
+use lib.Seq.{length-sets}
 use Rattle.numbers.proofs.Laws.{sets_append}
 use Rattle.numbers.specs.Answers.{over}
 use Rattle.lines.specs.Lines.{ascends, between}
 use Rattle.lines.specs.Places.{Splits}
 use Rattle.cues.specs.declared.plan.Plan.{Plan}
-use Rattle.cues.specs.declared.count.Counted.{Counted}
-use Rattle.cues.specs.declared.count.Counted.TheVariants.{Fits, TooMany}
+use Rattle.std.specs.Prelude.{Option, Some, None}
 use Rattle.cues.specs.CueCall.{flat}
 use Rattle.cues.specs.Plans.{plan_cues, Fitting, counted_to, written, part_words, lap_words, Within, Writes, WritesLaps}
 use Rattle.cues.proofs.Parts.{length_between, length_plan, length_flat, within, plan_words}
 
 -- ---- what a count says
 
-pub counted_many : (room count : ℕ) → counted_to room count ≡ TooMany → room < count
+pub counted_many : (room count : ℕ) → counted_to room count ≡ None → room < count
 counted_many room count h = go (leb count room) refl h
   where
-    go : (b : Bool) → leb count room ≡ b → cond b (Fits count) TooMany ≡ TooMany → room < count
+    go : (b : Bool) → leb count room ≡ b → cond b (Some count) None ≡ None → room < count
     go true e q = absurd (let z : ◌≡◌ {A = ℕ} 0 1 = cc in omega arith)
     go false e q = leb-false count room e
 
-pub counted_fits : (room count found : ℕ) → counted_to room count ≡ Fits found → (found ≡ count) × (count ≤ room)
+pub counted_fits : (room count found : ℕ) → counted_to room count ≡ Some found → (found ≡ count) × (count ≤ room)
 counted_fits room count found h = go (leb count room) refl h
   where
-    go : (b : Bool) → leb count room ≡ b → cond b (Fits count) TooMany ≡ Fits found → (found ≡ count) × (count ≤ room)
+    go : (b : Bool) → leb count room ≡ b → cond b (Some count) None ≡ Some found → (found ≡ count) × (count ≤ room)
     go true e q = (cc, leb-true count room e)
     go false e q = absurd (let z : ◌≡◌ {A = ℕ} 0 1 = cc in omega arith)
 
@@ -50,17 +43,17 @@ pub record Found (lines : List ℕ) (p : Plan) (place again : ℕ) (first lap la
 
 -- from what the calls ask and give
 pub found : (lines : List ℕ) (p : Plan) (place again : ℕ) (first lap last : List ℕ)
-    → (ascends lines ≡ true) × (length lines ≤ 65536) × Fitting p
+    → ascends lines ≡ true → length lines ≤ 65536 → Fitting p
     → Splits p.from lines place
     → first ≡ between p.from (p.from + p.first) lines
     → Splits p.start lines again
     → lap ≡ between p.start (p.start + p.lap) lines
     → last ≡ between p.start (p.start + p.last) lines
     → Found lines p place again first lap last
-found lines p place again first lap last asked place_at first_is again_at lap_is last_is = record {
-  up = asked.0;
-  few = asked.1;
-  fits = asked.2;
+found lines p place again first lap last up few fits place_at first_is again_at lap_is last_is = record {
+  up = up;
+  few = few;
+  fits = fits;
   place_at = place_at;
   again_at = again_at;
   first_is = first_is;
@@ -94,11 +87,11 @@ module _ (lines : List ℕ) (p : Plan) (place again : ℕ) (first lap last : Lis
   total_is : total ≡ length (plan_cues lines p)
   total_is = rw (f.first_is, f.lap_is, f.last_is) (sym (length_plan lines p))
 
-  pub count_is : (room : ℕ) (counted : Counted) → counted ≡ counted_to room total → counted ≡ counted_to room (length (plan_cues lines p))
+  pub count_is : (room : ℕ) (counted : Option ℕ) → counted ≡ counted_to room total → counted ≡ counted_to room (length (plan_cues lines p))
   count_is room counted e = e ∙ ap (counted_to room) total_is
 
   -- ---- no room: nothing is written
-  pub none_left : (out : List ℕ) (counted : Counted) → counted ≡ counted_to (length out / 2) total → counted ≡ TooMany → out ≡ written (plan_cues lines p) out
+  pub none_left : (out : List ℕ) (counted : Option ℕ) → counted ≡ counted_to (length out / 2) total → counted ≡ None → out ≡ written (plan_cues lines p) out
   none_left out counted e g =
       sym (ap (λ (b : Bool). cond b (over (flat (plan_cues lines p)) out) out) (lt-leb (length (plan_cues lines p)) (length out / 2) many))
     where
@@ -106,7 +99,7 @@ module _ (lines : List ℕ) (p : Plan) (place again : ℕ) (first lap last : Lis
       many = counted_many (length out / 2) (length (plan_cues lines p)) (sym (count_is (length out / 2) counted e) ∙ g)
 
   -- ---- room: the three stretches are written
-  module _ (before : List ℕ) (counted : Counted) (n : ℕ) (e : counted ≡ counted_to (length before / 2) total) (g : counted ≡ Fits n) where
+  module _ (before : List ℕ) (counted : Option ℕ) (n : ℕ) (e : counted ≡ counted_to (length before / 2) total) (g : counted ≡ Some n) where
     abbrev first_words : List ℕ
     first_words = part_words 0 p.from place first
 

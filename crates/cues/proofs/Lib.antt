@@ -2,7 +2,6 @@ pub mod Sounding
 pub mod Stretches
 pub mod Planning
 pub mod Parts
-pub mod Counting
 pub mod Writing
 pub mod Filling
 pub mod Answering

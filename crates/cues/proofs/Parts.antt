@@ -1,11 +1,5 @@
 -- The cues of a stretch are those of the part of the lines in its range: how many there are, and their words.
-use mathlib.Core.Path.{◌≡◌, refl, sym, ap, ◌∙◌}
-use mathlib.Core.Bool.{true}
-use mathlib.Core.List.{List, [], ◌∷◌, ◌++◌, map, append_assoc}
-use Prim.Native.Nat.{ℕ, zero, suc, ◌+◌, ◌-◌, ◌*◌, ◌≤◌, ◌<◌, zero-le}
-use native.Mathlib.Nat.{add-zero, zero-add, zero-mul, suc-mul, add_assoc, suc-add, le_of_suc-le-suc, not-suc-le-zero}
-use native.Mathlib.Omega.{arith}
-use lib.ListN.{length, get_or, length-append}
+use Rattle.std.proofs.Common.{◌≡◌, refl, sym, ap, ◌∙◌, true, List, [], ◌∷◌, ◌++◌, map, append_assoc, ℕ, zero, suc, ◌+◌, ◌-◌, ◌*◌, ◌≤◌, ◌<◌, zero-le, add-zero, zero-add, zero-mul, suc-mul, add_assoc, suc-add, le_of_suc-le-suc, not-suc-le-zero, arith, length, get_or, length-append}
 use Rattle.numbers.proofs.Laws.{by_order}
 use Rattle.lines.specs.Lines.{ascends_from, ascends, between}
 use Rattle.lines.specs.Places.{Splits}

@@ -1,15 +1,11 @@
 -- The cues of a playing run are those of its plan.
-use mathlib.Core.Path.{◌≡◌, refl, sym, ap, ◌∙◌}
-use mathlib.Core.Bool.{true}
-use mathlib.Core.List.{List, ◌++◌, map, append-nil}
-use Prim.Native.Nat.{ℕ, zero, suc, ◌+◌, ◌-◌, ◌*◌, ◌/◌, ◌%◌, ◌≤◌, ◌<◌, zero-le}
-use native.Mathlib.Nat.{add-zero, zero-add, zero-mul, suc-mul, mod-lt, div-add-mod', le_of_lt}
-use native.Mathlib.Omega.{arith}
-use borrow.Author.Tests.{le-leb, lt-leb}
+use Rattle.std.proofs.Common.{min, subst, ◌≡◌, refl, sym, ap, ◌∙◌, true, List, ◌++◌, map, append-nil, ℕ, zero, suc, ◌+◌, ◌-◌, ◌*◌, ◌/◌, ◌%◌, ◌≤◌, ◌<◌, zero-le, add-zero, zero-add, zero-mul, suc-mul, mod-lt, div-add-mod', le_of_lt, arith, le-leb}
+use Rattle.std.proofs.lemmas.Bool.{lt-leb}
 use Rattle.numbers.proofs.Laws.{by_order}
 use Rattle.transport.specs.declared.PlayState.{PlayState}
 use Rattle.transport.specs.declared.PlayState.TheVariants.{Stopped, Playing, Paused}
-use Rattle.transport.specs.declared.LoopRange.TheVariants.{Off, On}
+use Rattle.std.specs.Prelude.{Some, None}
+use Rattle.transport.specs.declared.LoopRange.{LoopRange}
 use Rattle.transport.specs.declared.playhead.Stands.TheVariants.{Wrapped}
 use Rattle.transport.specs.declared.playhead.Run.{Run}
 use Rattle.transport.specs.declared.Transport.{Transport}
@@ -28,7 +24,7 @@ straight_plan_lem from frames lines = sym (ap (λ (c : List Cue). stretch from f
 
 -- ---- in a loop
 
-module _ (lines : List ℕ) (up : ascends lines ≡ true) (t : Transport) (is : sound t ≡ true) (start end : ℕ) (on : t.looping ≡ On start end) where
+module _ (lines : List ℕ) (up : ascends lines ≡ true) (t : Transport) (is : sound t ≡ true) (start end : ℕ) (on : t.looping ≡ Some (record { start = start; end = end })) where
   good : (start < end) × (end ≤ t.length)
   good = on_sound t.length t.looping start end on (sound_loop_lem t is)
 
@@ -78,8 +74,8 @@ module _ (lines : List ℕ) (up : ascends lines ≡ true) (t : Transport) (is : 
 straight_fits : (from frames : ℕ) → from + frames ≤ 18446744073709551615 → Fitting (straight_plan from frames)
 straight_fits from frames h = record { from_fits = h; lap_fits = omega arith; last_short = zero-le; run_fits = omega arith }
 
-loop_fits : (start end from frames : ℕ) → start < end → from < end → end ≤ 18446744073709551615 → from + frames ≤ 18446744073709551615 → Fitting (loop_plan start end from frames)
-loop_fits start end from frames h i g k = by_order (end - from) frames
+loop_fits : (start end from frames : ℕ) → start < end → from < end → from + frames ≤ 18446744073709551615 → Fitting (loop_plan start end from frames)
+loop_fits start end from frames h i k = by_order (end - from) frames
     (λ l. simp (lt-leb frames (end - from) l) (record {
       from_fits = omega arith;
       lap_fits = omega arith;
@@ -97,20 +93,26 @@ stays t Stopped e p = absurd (let z : ◌≡◌ {A = ℕ} 0 1 = cc in omega arit
 stays t Paused e p = absurd (let z : ◌≡◌ {A = ℕ} 0 1 = cc in omega arith)
 
 module _ (t : Transport) (frames : ℕ) (go : Plays t frames) where
-  module _ (start end : ℕ) (on : t.looping ≡ On start end) (short : end ≤ 18446744073709551615) where
+  module _ (range : LoopRange) (on : t.looping ≡ Some range) where
+    abbrev start : ℕ
+    start = range.start
+
+    abbrev end : ℕ
+    end = range.end
+
     pub loop_good : (start < end) × (end ≤ t.length)
     loop_good = on_sound t.length t.looping start end on (sound_loop_lem t go.fit)
 
     pub before_end : t.position < end → Planned t frames (loop_plan start end t.position frames)
     before_end i = record {
-      fits = loop_fits start end t.position frames loop_good.0 i short go.reach;
+      fits = loop_fits start end t.position frames loop_good.0 i go.reach;
       same = λ lines up.
           ap (λ (u : Transport). cues lines u frames) (stays t t.state refl go.plays) ∙ loop_is lines up t go.fit start end on t.position frames i go.reach;
     }
 
     pub past_end : end ≤ t.position → Planned t frames (loop_plan start end (fold start end t.position) frames)
     past_end i = record {
-      fits = loop_fits start end from frames loop_good.0 low short (omega (arith, go.reach, low));
+      fits = loop_fits start end from frames loop_good.0 low (omega (arith, go.reach, low));
       same = λ lines up.
           ap (cues lines t) (sym (zero-add frames)) ∙ cues_on lines t 0 frames go.fit (omega (arith, go.reach)) ∙ later_zero (cues lines (advanced t 0).transport frames)
           ∙ ap (λ (run : Run). cues lines run.transport frames) (plays_on t 0 go.plays (omega (arith, go.reach)) ∙ ap (came t) stood)
@@ -127,14 +129,14 @@ module _ (t : Transport) (frames : ℕ) (go : Plays t frames) where
         stood = simp (on, add-zero, le-leb end t.position i)
 
   -- with no loop: so many frames as there are before the length
-  module _ (off : t.looping ≡ Off) (k : t.position ≤ t.length) where
-    pub all_sound : frames ≤ t.length - t.position → Planned t frames (straight_plan t.position frames)
+  module _ (off : t.looping ≡ None) (k : t.position ≤ t.length) where
+    all_sound : frames ≤ t.length - t.position → Planned t frames (straight_plan t.position frames)
     all_sound h = record {
       fits = straight_fits t.position frames go.reach;
       same = λ lines up. straight_off lines t up go.fit go.plays frames off (omega arith) go.reach ∙ straight_plan_lem t.position frames lines;
     }
 
-    pub some_sound : t.length - t.position < frames → Planned t frames (straight_plan t.position (t.length - t.position))
+    some_sound : t.length - t.position < frames → Planned t frames (straight_plan t.position (t.length - t.position))
     some_sound h = record {
       fits = straight_fits t.position (t.length - t.position) (omega (arith, go.reach));
       same = λ lines up.
@@ -145,3 +147,8 @@ module _ (t : Transport) (frames : ℕ) (go : Plays t frames) where
       where
         cut : frames ≡ (t.length - t.position) + (frames - (t.length - t.position))
         cut = omega arith
+
+    pub no_loop : Planned t frames (straight_plan t.position (min frames (t.length - t.position)))
+    no_loop = by_order (t.length - t.position) frames
+        (λ h. subst (λ (n : ℕ). Planned t frames (straight_plan t.position n)) (let e : t.length - t.position ≡ min frames (t.length - t.position) = omega arith in e) (some_sound h))
+        (λ h. subst (λ (n : ℕ). Planned t frames (straight_plan t.position n)) (let e : frames ≡ min frames (t.length - t.position) = omega arith in e) (all_sound h))

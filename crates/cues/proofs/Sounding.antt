@@ -1,13 +1,6 @@
 -- The cues of a run are those of its first frames, and then those of the rest from where the first frames end. It goes by the frame sounded.
-use mathlib.Core.Path.{◌≡◌, refl, sym, ap, ◌∙◌}
-use mathlib.Core.Bool.{Bool, true, false}
-use mathlib.Core.List.{List, [], ◌∷◌, ◌++◌, map, append-nil, append_assoc}
-use mathlib.Core.Option.{Option, none, some}
-use Prim.Native.Nat.{ℕ, zero, suc, ◌+◌}
-use native.Mathlib.Nat.{add-zero, zero-add, add-suc}
-use native.Mathlib.Omega.{arith}
-use lib.Dec.{eqb}
-use lib.ListN.{length}
+use Rattle.std.proofs.Common.{◌≡◌, refl, sym, ap, ◌∙◌, Bool, true, false, List, [], ◌∷◌, ◌++◌, map, append-nil, append_assoc, ℕ, zero, suc, ◌+◌, add-zero, zero-add, add-suc, arith, eqb, length}
+use Rattle.std.proofs.Math.Option.{Option, none, some}
 use Rattle.numbers.proofs.Laws.{cases}
 use Rattle.transport.specs.declared.playhead.Run.{Run}
 use Rattle.transport.specs.declared.Transport.{Transport}
@@ -34,13 +27,13 @@ module _ (t : Transport) (a b : ℕ) (h : Reaches t (a + b)) (is : sound t ≡ t
   whole = composes t a b h is
 
   -- what a run of a + b frames sounds at last, by whether the first frames finish
-  sounds_by : (q : Bool) → (advanced t a).finished ≡ q → playing t.state ≡ true → stands_at (advanced t (a + b)) ≡ sounded_at after b
+  sounds_by : (q : Bool) → (advanced t a).moves.finished ≡ q → playing t.state ≡ true → stands_at (advanced t (a + b)) ≡ sounded_at after b
   sounds_by true e p = simp (whole.finishes, e, advanced_plays t a, p)
   sounds_by false e p = simp (whole.finishes, whole.ends, e, advanced_plays t a, p)
 
   sounds_on : sounded_at t (a + b) ≡ sounded_at after b
   sounds_on =
-      cases (playing t.state) (λ p. sounds_playing t (a + b) p ∙ sounds_by (advanced t a).finished refl p)
+      cases (playing t.state) (λ p. sounds_playing t (a + b) p ∙ sounds_by (advanced t a).moves.finished refl p)
       (λ p. sounds_none t (a + b) p ∙ sym (sounds_none after b (ap (λ (run : Run). playing run.transport.state) (stays_put t a p) ∙ p)))
 
 -- ---- cues, later

@@ -1,15 +1,12 @@
 -- A run that neither wraps nor ends has the cues of a stretch; a run that reaches the loop's end is a stretch, and the run from the loop's start.
-use mathlib.Core.Path.{◌≡◌, refl, sym, ap, ◌∙◌}
-use mathlib.Core.Bool.{true, and-false}
-use mathlib.Core.List.{List, [], ◌∷◌, ◌++◌, map, append-nil}
-use mathlib.Core.Option.{Option, some}
-use Prim.Native.Nat.{ℕ, zero, suc, ◌+◌, ◌-◌, ◌≤◌, ◌<◌, ◌^◌}
-use native.Mathlib.Nat.{add-zero, add-suc, mod_self}
-use native.Mathlib.Omega.{arith}
-use borrow.Author.Tests.{le-leb, lt-leb, lt-ltb, le-ltb, eq-eqb, ne_eqb}
+use Rattle.std.proofs.Common.{◌≡◌, refl, sym, ap, ◌∙◌, true, List, [], ◌∷◌, ◌++◌, map, append-nil, ℕ, zero, suc, ◌+◌, ◌-◌, ◌≤◌, ◌<◌, ◌^◌, add-zero, add-suc, arith, le-leb, lt-ltb, le-ltb, eq-eqb, ne_eqb}
+use Rattle.std.proofs.Math.Option.{Option, some}
+use Rattle.std.proofs.lemmas.Bool.{lt-leb}
+use mathlib.Core.Bool.{and-false}
+use native.Mathlib.Nat.{mod_self}
 use Rattle.numbers.proofs.Laws.{by_order}
 use Rattle.transport.specs.declared.PlayState.TheVariants.{Playing, Stopped}
-use Rattle.transport.specs.declared.LoopRange.TheVariants.{Off, On}
+use Rattle.std.specs.Prelude.{Some, None}
 use Rattle.transport.specs.declared.playhead.Stands.{Stands}
 use Rattle.transport.specs.declared.playhead.Stands.TheVariants.{At, Wrapped, Ended}
 use Rattle.transport.specs.declared.playhead.Run.{Run}
@@ -114,22 +111,22 @@ module _ (lines : List ℕ) (t : Transport) (up : ascends lines ≡ true) (is : 
       → cues lines t (a + b) ≡ cues lines t a ++ map (later a) (cues lines (came t place).transport b)
   rest_is a b place h e = cues_on lines t a b is (λ q. h) ∙ ap (λ (run : Run). cues lines t a ++ map (later a) (cues lines run.transport b)) (plays_on t a p (omega arith) ∙ ap (came t) e)
 
-  pub straight_off : (frames : ℕ) → t.looping ≡ Off → t.position + frames ≤ t.length → t.position + frames ≤ 2 ^ 64 - 1 → cues lines t frames ≡ stretch t.position frames 0 lines
+  pub straight_off : (frames : ℕ) → t.looping ≡ None → t.position + frames ≤ t.length → t.position + frames ≤ 2 ^ 64 - 1 → cues lines t frames ≡ stretch t.position frames 0 lines
   straight_off frames off k h = straight frames h (λ time g. simp (off, lt-leb t.length (t.position + time) (omega arith)))
 
-  pub straight_on : (start end frames : ℕ) → t.looping ≡ On start end → end ≤ t.length → t.position + frames ≤ end → t.position + frames ≤ 2 ^ 64 - 1
+  pub straight_on : (start end frames : ℕ) → t.looping ≡ Some (record { start = start; end = end }) → end ≤ t.length → t.position + frames ≤ end → t.position + frames ≤ 2 ^ 64 - 1
       → cues lines t frames ≡ stretch t.position frames 0 lines
   straight_on start end frames on k g h = straight frames h (λ time f. simp (on, lt-leb end (t.position + time) (omega arith), lt-leb t.length (t.position + time) (omega arith)))
 
   -- frames that reach the loop's end, and more
-  pub wraps_on : (start end frames more : ℕ) → t.looping ≡ On start end → end ≤ t.length → t.position + frames ≡ end → t.position + (frames + more) ≤ 2 ^ 64 - 1
+  pub wraps_on : (start end frames more : ℕ) → t.looping ≡ Some (record { start = start; end = end }) → end ≤ t.length → t.position + frames ≡ end → t.position + (frames + more) ≤ 2 ^ 64 - 1
       → cues lines t (frames + more) ≡ stretch t.position frames 0 lines ++ map (later frames) (cues lines (moved_to t start Playing) more)
   wraps_on start end frames more on k e h =
       rest_is frames more (Wrapped start) h (simp (on, e, le-leb end end (omega arith), mod_self, add-zero))
       ∙ ap (λ (c : List Cue). c ++ map (later frames) (cues lines (moved_to t start Playing) more)) (straight_on start end frames on k (omega arith) (omega arith))
 
   -- frames that reach the length with no loop: nothing sounds after them
-  pub ends_off : (frames more : ℕ) → t.looping ≡ Off → t.position + frames ≡ t.length → t.position + (frames + more) ≤ 2 ^ 64 - 1
+  pub ends_off : (frames more : ℕ) → t.looping ≡ None → t.position + frames ≡ t.length → t.position + (frames + more) ≤ 2 ^ 64 - 1
       → cues lines t (frames + more) ≡ stretch t.position frames 0 lines
   ends_off frames more off e h =
       rest_is frames more Ended h (simp (off, e, le-leb t.length t.length (omega arith)))

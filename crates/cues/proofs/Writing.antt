@@ -1,12 +1,6 @@
 -- The loops that write: what is still to be written, put over the output as it is now, gives what the whole gives.
-use mathlib.Core.Path.{◌≡◌, refl, sym, ap, ◌∙◌}
-use mathlib.Core.List.{List, [], ◌∷◌, ◌++◌}
-use Prim.Native.Nat.{ℕ, zero, suc, ◌+◌, ◌-◌, ◌*◌, ◌≤◌, ◌<◌, zero-le}
-use native.Mathlib.Nat.{add-zero, suc-mul}
-use native.Mathlib.Numerals.{add-one, add-two}
-use native.Mathlib.Omega.{arith}
-use lib.ListN.{length, set, get_or, drop, length-append, length-set, drop_of_length-le}
-use lib.Seq.{sets, drop-cons}
+use Rattle.std.proofs.Common.{◌≡◌, refl, sym, ap, ◌∙◌, List, [], ◌∷◌, ◌++◌, ℕ, zero, suc, ◌+◌, ◌-◌, ◌*◌, ◌≤◌, ◌<◌, suc-mul, arith, length, get_or, drop, length-append}
+use Rattle.std.proofs.lemmas.List.Edits.{sets}
 use Rattle.numbers.proofs.Laws.{sets_append}
 use Rattle.cues.specs.Plans.{part_words, lap_words, Writes, WritesLaps}
 
@@ -29,38 +23,6 @@ module _ (part before : List ℕ) (at from place time : ℕ) where
     pub long : length out ≡ length before
     pub next : word + length (left i) ≡ at + length words
     pub same : sets out word (left i) ≡ sets before at words
-
-  pub part_begins : Wrote before at 0
-  part_begins = record {
-    within = zero-le;
-    long = refl;
-    next = ap (λ (n : ℕ). at + length (part_words time from n part)) (add-zero place);
-    same = ap (λ (n : ℕ). sets before at (part_words time from n part)) (add-zero place);
-  }
-
-  here : (i : ℕ) → i < length part → left i ≡ time_of i ∷ (place + i) ∷ left (i + 1)
-  here i h =
-      ap (part_words time from (place + i)) (drop-cons part i 0 h)
-      ∙ ap (λ (n : ℕ). time_of i ∷ (place + i) ∷ part_words time from (suc (place + i)) (drop n part)) (sym (add-one i))
-      ∙ ap (λ (n : ℕ). time_of i ∷ (place + i) ∷ part_words time from n (drop (i + 1) part)) (let e : suc (place + i) ≡ place + (i + 1) = omega arith in e)
-
-  module _ (out : List ℕ) (word i : ℕ) (w : Wrote out word i) (h : i < length part) where
-    pub pair_fits : at + length words ≤ length before → word + 2 ≤ length out
-    pair_fits r = omega (arith, w.next, w.long, ap length (here i h))
-
-    pub part_again : Wrote (set (set out word (time_of i)) (word + 1) (place + i)) (word + 2) (i + 1)
-    part_again = record {
-      within = omega arith;
-      long = length-set (set out word (time_of i)) (word + 1) (place + i) ∙ length-set out word (time_of i) ∙ w.long;
-      next = omega (arith, w.next, ap length (here i h));
-      same = rw (add-one word, add-two word) (sym (ap (sets out word) (here i h)) ∙ w.same);
-    }
-
-  pub part_ends : (out : List ℕ) (word i : ℕ) → Wrote out word i → length part ≤ i → (word ≡ at + length words) × (out ≡ sets before at words)
-  part_ends out word i w h = (omega (arith, w.next, ap length none), sym (ap (sets out word) none) ∙ w.same)
-    where
-      none : left i ≡ []
-      none = ap (part_words time from (place + i)) (drop_of_length-le part h)
 
 -- ---- the laps
 

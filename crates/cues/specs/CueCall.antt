@@ -37,7 +37,7 @@ pub record Said : Type 0 where
 
 -- the state moves, and wrap and finish are reported, as by an advance
 abbrev pub moved_by : Run → ℕ → Handed Said
-moved_by run count = record { transport = run.transport; answer = accepted (record { wrapped = run.wrapped; finished = run.finished; count = count }) }
+moved_by run count = record { transport = run.transport; answer = accepted (record { wrapped = run.moves.wrapped; finished = run.moves.finished; count = count }) }
 
 -- a refusal hands back the old transport
 abbrev pub handed_by : Transport → Answer Unit → Handed Said → Handed Said

@@ -16,7 +16,7 @@ pub record Sounds (lines : List ℕ) (t : Transport) (frames time place : ℕ) :
   pub in_run : time < frames
   pub in_list : place < length lines
   pub plays : playing t.state ≡ true
-  pub goes_on : (advanced t time).finished ≡ false
+  pub goes_on : (advanced t time).moves.finished ≡ false
   pub stands_on : (advanced t time).transport.position ≡ get_or lines place 0
 
 -- of any transport and any lines

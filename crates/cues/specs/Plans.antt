@@ -1,12 +1,10 @@
 -- A playing run as stretches of frames that sound one after the other, and the words of their cues.
-use Rattle.std.specs.Prelude.{◌≡◌, true, cond, ◌&&◌, List, [], ◌∷◌, ◌++◌, map, ℕ, zero, suc, ◌+◌, ◌-◌, ◌*◌, ◌/◌, ◌%◌, ◌≤◌, ◌<◌, leb, ltb, length, get_or}
+use Rattle.std.specs.Prelude.{◌≡◌, true, cond, ◌&&◌, List, [], ◌∷◌, ◌++◌, map, ℕ, zero, suc, ◌+◌, ◌-◌, ◌*◌, ◌/◌, ◌%◌, ◌≤◌, ◌<◌, leb, ltb, length, get_or, Option, Some, None}
 use Rattle.transport.specs.declared.Transport.{Transport}
 use Rattle.transport.specs.Transports.{sound, playing}
 use Rattle.numbers.specs.Answers.{over}
 use Rattle.lines.specs.Lines.{ascends}
 use Rattle.cues.specs.declared.plan.Plan.{Plan}
-use Rattle.cues.specs.declared.count.Counted.{Counted}
-use Rattle.cues.specs.declared.count.Counted.TheVariants.{Fits, TooMany}
 use Rattle.cues.specs.Sounding.{Cue, cue_if, cues, later}
 use Rattle.cues.specs.CueCall.{room_for, flat}
 
@@ -67,8 +65,8 @@ pub record Planned (t : Transport) (frames : ℕ) (p : Plan) : Type 0 where
 
 -- ---- counting
 
-abbrev pub counted_to : ℕ → ℕ → Counted
-counted_to room count = cond (leb count room) (Fits count) TooMany
+abbrev pub counted_to : ℕ → ℕ → Option ℕ
+counted_to room count = cond (leb count room) (Some count) None
 
 -- ---- writing
 

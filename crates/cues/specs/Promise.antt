@@ -80,8 +80,8 @@ frames_in (block ∷ rest) = block.frames + frames_in rest
 pub record RunJoined (lines : List ℕ) (t : Transport) (blocks : List Block) : Type 0 where
   pub run_cues : joined_cues lines t blocks ≡ cues lines t (frames_in blocks)
   pub run_end : last_transport lines t blocks ≡ (advanced t (frames_in blocks)).transport
-  pub run_wrap : some_wraps lines t blocks ≡ (advanced t (frames_in blocks)).wrapped
-  pub run_finish : some_finishes lines t blocks ≡ (advanced t (frames_in blocks)).finished
+  pub run_wrap : some_wraps lines t blocks ≡ (advanced t (frames_in blocks)).moves.wrapped
+  pub run_finish : some_finishes lines t blocks ≡ (advanced t (frames_in blocks)).moves.finished
 
 -- for one or more blocks that do not carry the position past 2 ^ 64 - 1, where every block is accepted. (No block is no call, and an advance of 0 frames may
 -- wrap or finish.) Nothing is asked of the transport: a first block that is accepted shows that it is sound

@@ -10,7 +10,7 @@ use Rattle.transport.specs.Advances.{advanced}
 
 -- where a run stands; none once it finished
 abbrev pub stands_at : Run → Option ℕ
-stands_at run = cond run.finished none (some run.transport.position)
+stands_at run = cond run.moves.finished none (some run.transport.position)
 
 -- the frame sounded at a time is where an advance by that time from the beginning would stand; none at all unless the transport plays
 abbrev pub sounded_at : Transport → ℕ → Option ℕ

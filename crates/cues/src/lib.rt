@@ -6,43 +6,39 @@ ghost use Rattle.std.specs.Prelude.{◌≡◌};
 ghost use Rattle.cues.specs.CueCall.{cue_answer, cue_after};
 ghost use Rattle.cues.specs.Readings.{read_cues};
 
-use lines::{LinesReport, check_lines};
-use transport::Transport;
+use lines::Lines;
+use numbers::Refusal;
+use transport::{Handed, Transport};
 
 pub mod count;
 pub mod plan;
 pub mod play;
 pub mod write;
 
-// What a cue call says.
-#[derive(Clone, Copy)]
-pub enum CueReport {
-    // whether it wrapped, whether it finished, and the number of cues
-    Cued(bool, bool, usize),
-    Unsound,
-    TooLong,
-    Descend,
-    OutOfReach,
-    NoRoom,
-}
-
-// The transport after the run; where the call refuses, as it was.
-#[derive(Clone, Copy)]
-pub struct CueAnswer {
-    pub transport: Transport,
-    pub report: CueReport,
+// What a run says: whether it wrapped, whether it finished, and the number of cues.
+#[derive(Clone, Copy, Debug, PartialEq, Eq)]
+pub struct Cued {
+    pub wrapped: bool,
+    pub finished: bool,
+    pub count: usize,
 }
 
 // Let so many frames go by, and write the time and the place of each bar line that sounds.
-pub fn cue(t: Transport, lines: &[u64], frames: u64, out: &mut [u64]) -> CueAnswer
-    ensures { (read_cues result ≡ cue_answer t lines.now frames out.old) × (out.new ≡ cue_after t lines.now frames out.old) }
+pub fn cue(t: Transport, lines: &[u64], frames: u64, out: &mut [u64]) -> Handed<Cued>
+    ensures answer { read_cues result ≡ cue_answer t lines.now frames out.old }
+    ensures words { out.new ≡ cue_after t lines.now frames out.old }
 {
     if !t.is_sound() {
-        return play::refused(t, CueReport::Unsound);
+        return Handed {
+            transport: t,
+            answer: Err(Refusal::Unsound),
+        };
     }
-    match check_lines(lines) {
-        LinesReport::TooLong => play::refused(t, CueReport::TooLong),
-        LinesReport::Descend => play::refused(t, CueReport::Descend),
-        LinesReport::Fine => play::tested(t, lines, frames, &mut *out),
+    match Lines::tested(lines) {
+        Ok(fine) => play::tested(t, fine, frames, out),
+        Err(why) => Handed {
+            transport: t,
+            answer: Err(why),
+        },
     }
 }

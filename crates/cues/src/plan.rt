@@ -5,7 +5,7 @@ ghost use Rattle.cues.specs.Plans.{straight_plan, loop_plan, Plays, Planned};
 use transport::{LoopRange, Transport};
 
 // `first` frames from `from`; then `laps` times `lap` frames from `start`; then `last` frames from `start`.
-#[derive(Clone, Copy)]
+#[derive(Clone, Copy, Debug, PartialEq, Eq)]
 pub struct Plan {
     pub from: u64,
     pub first: u64,
@@ -30,20 +30,20 @@ fn straight(from: u64, frames: u64) -> Plan
 }
 
 // From a frame before the loop's end.
-fn looped(start: u64, end: u64, from: u64, frames: u64) -> Plan
-    requires { (start < end) × (from < end) }
-    ensures { result ≡ loop_plan start end from frames }
+fn looped(range: LoopRange, from: u64, frames: u64) -> Plan
+    requires { (range.start < range.end) × (from < range.end) }
+    ensures { result ≡ loop_plan range.start range.end from frames }
 {
-    let left = end - from;
+    let left = range.end - from;
     if frames <= left {
         return straight(from, frames);
     }
-    let lap = end - start;
+    let lap = range.end - range.start;
     let more = frames - left;
     Plan {
         from,
         first: left,
-        start,
+        start: range.start,
         lap,
         laps: more / lap,
         last: more % lap,
@@ -55,27 +55,19 @@ pub fn make(t: Transport, frames: u64) -> Plan
     requires { Plays t frames }
     ensures { Planned t frames result }
 {
-    let looping = t.looping;
     let position = t.position;
-    match looping {
-        LoopRange::Off => {
+    match t.looping {
+        None => {
             let left = t.length - position;
-            if frames <= left {
-                straight(position, frames)
-            } else {
-                straight(position, left)
-            }
+            let shorter = frames.min(left);
+            straight(position, shorter)
         }
-        LoopRange::On(start, end) => {
+        Some(range) => {
+            let LoopRange { start, end } = range;
             if position < end {
-                looped(start, end, position, frames)
+                looped(range, position, frames)
             } else {
-                looped(
-                    start,
-                    end,
-                    start + (position - start) % (end - start),
-                    frames,
-                )
+                looped(range, start + (position - start) % (end - start), frames)
             }
         }
     }

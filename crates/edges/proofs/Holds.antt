@@ -1,5 +1,5 @@
 -- Every edge of the table holds, by computing.
-use mathlib.Core.Path.{refl}
+use Rattle.std.proofs.Common.{refl}
 use Rattle.numbers.specs.Answers.{Agree}
 use Rattle.numbers.specs.Divisor.{gcd_of, remainders}
 use Rattle.numbers.specs.Lists.{entries}

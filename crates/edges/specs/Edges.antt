@@ -1,18 +1,15 @@
 -- Document 01's list "Both sides of each edge": the cases that it marks to be proved, as one table of questions and answers.
 -- proofs/Holds.antt has the one statement, that each question's definition gives the answer beside it.
-use Rattle.std.specs.Prelude.{Bool, true, false, List, [], ◌∷◌, ◌++◌, map, ℕ, ℤ, pos, negsuc, neg_ℤ}
+use Rattle.std.specs.Prelude.{Bool, true, false, List, [], ◌∷◌, ◌++◌, map, ℕ, ℤ, pos, negsuc, neg_ℤ, Option, Some, None}
 use Rattle.std.specs.Float.{fin}
-use Rattle.numbers.specs.declared.exact.Order.{Order}
-use Rattle.numbers.specs.declared.exact.Order.TheVariants.{Less, Equal, Greater}
+use Rattle.std.specs.declared.cmp.Ordering.{Ordering}
+use Rattle.std.specs.declared.cmp.Ordering.TheVariants.{Less, Equal, Greater}
 use Rattle.numbers.specs.Answers.{Answer, accepted, refused}
 use Rattle.beats.specs.declared.Beat.{Beat}
 use Rattle.beats.specs.Beats.{new_beat}
 use Rattle.beats.specs.Sums.{add_answer, order_answer}
-use Rattle.meter.specs.declared.Pickup.{Pickup}
-use Rattle.meter.specs.declared.Pickup.TheVariants.{Absent, Present}
 use Rattle.meter.specs.Answers.{count_answer}
 use Rattle.transport.specs.declared.PlayState.TheVariants.{Playing}
-use Rattle.transport.specs.declared.LoopRange.TheVariants.{On}
 use Rattle.transport.specs.declared.Transport.{Transport}
 use Rattle.transport.specs.Transports.{made, moved_to, looping_by}
 use Rattle.transport.specs.Changes.{Handed}
@@ -29,7 +26,7 @@ pub data Question : Type 0 where
   new : ℤ → ℕ → Question
   add : Beat → Beat → Question
   order : Beat → Beat → Question
-  count : List ℕ → ℕ → Pickup → Beat → Question
+  count : List ℕ → ℕ → Option Beat → Beat → Question
   advance : Transport → ℕ → Question
   -- the transport, the lines, the frames and the output
   cue : Transport → List ℕ → ℕ → List ℕ → Question
@@ -48,7 +45,7 @@ abbrev pub of_beat : Beat → List ℤ
 of_beat beat = beat.num ∷ pos beat.den ∷ []
 
 -- -1, 0 or 1
-abbrev pub of_order : Order → List ℤ
+abbrev pub of_order : Ordering → List ℤ
 of_order Less = negsuc 0 ∷ []
 of_order Equal = pos 0 ∷ []
 of_order Greater = pos 1 ∷ []
@@ -110,7 +107,7 @@ four_four = 0 ∷ 4 ∷ 4 ∷ []
 
 -- playing at a position, with the loop 100..300 and the length 1000, at the tempo 120, which is 15 * 2 ^ 3
 abbrev pub looped : ℕ → Transport
-looped position = moved_to (looping_by (made 48000 (fin false 15 (pos 3)) 4 1000 Absent) (On 100 300)) position Playing
+looped position = moved_to (looping_by (made 48000 (fin false 15 (pos 3)) 4 1000 None) (Some (record { start = 100; end = 300 }))) position Playing
 
 -- one note, at a step and so long
 abbrev pub note : ℕ → ℕ → List ℕ
@@ -125,13 +122,13 @@ table =
     ∷ (add (pos 1 // 65536) (pos 1 // 65536), refused 2 [])
     ∷ (add (pos 1 // 65535) (pos 1 // 65536), accepted (of_beat (pos 131071 // 4294901760)))
     ∷ (order (minus 1 // 2) (minus 1 // 3), accepted (of_order Less))
-    ∷ (count four_four 4 (Present (pos 1 // 1)) (pos 0 // 1), accepted (of_number 0))
-    ∷ (count four_four 4 (Present (pos 1 // 1)) (pos 1 // 1), accepted (of_number 1))
-    ∷ (count four_four 4 (Present (pos 1 // 1)) (pos 9 // 1), accepted (of_number 3))
-    ∷ (count four_four 4 (Present (pos 1 // 1)) (pos 28 // 3), accepted (of_number 4))
-    ∷ (count four_four 4 (Present (pos 0 // 1)) (pos 1 // 2), accepted (of_number 2))
-    ∷ (count four_four 4 Absent (pos 8589934592 // 1), accepted (of_number 2147483648))
-    ∷ (count four_four 4 Absent (pos 8589934593 // 1), accepted (of_number 4294967295))
+    ∷ (count four_four 4 (Some (pos 1 // 1)) (pos 0 // 1), accepted (of_number 0))
+    ∷ (count four_four 4 (Some (pos 1 // 1)) (pos 1 // 1), accepted (of_number 1))
+    ∷ (count four_four 4 (Some (pos 1 // 1)) (pos 9 // 1), accepted (of_number 3))
+    ∷ (count four_four 4 (Some (pos 1 // 1)) (pos 28 // 3), accepted (of_number 4))
+    ∷ (count four_four 4 (Some (pos 0 // 1)) (pos 1 // 2), accepted (of_number 2))
+    ∷ (count four_four 4 None (pos 8589934592 // 1), accepted (of_number 2147483648))
+    ∷ (count four_four 4 None (pos 8589934593 // 1), accepted (of_number 4294967295))
     ∷ (advance (looped 350) 0, accepted (stands_at 150 true false))
     ∷ (cue (looped 250) (0 ∷ 100 ∷ 200 ∷ 300 ∷ []) 300 (0 ∷ 0 ∷ 0 ∷ 0 ∷ 0 ∷ 0 ∷ []), accepted (cued 150 true false 3 (50 ∷ 1 ∷ 150 ∷ 2 ∷ 250 ∷ 1 ∷ [])))
     ∷ (euclidean 3 8, accepted (pos 0 ∷ pos 3 ∷ pos 6 ∷ []))

@@ -1,17 +1,8 @@
 -- Filled lines never descend: starts do not fall, so their floats do not, nor the seconds there, nor the frames.
-use mathlib.Core.Path.{◌≡◌, refl, sym, ap, ◌∙◌, subst}
-use mathlib.Core.Bool.{Bool, true, false, ◌&&◌}
-use mathlib.Core.List.{List, [], ◌∷◌}
-use Prim.Native.Nat.{ℕ, zero, suc, ◌+◌, ◌*◌, ◌^◌, ◌≤◌, ◌<◌}
-use native.Mathlib.Nat.{le_trans}
-use native.Mathlib.Omega.{arith}
-use borrow.Author.Tests.{le-leb, ltb-false}
-use lib.Dec.{T, leb, lit<, lit≤}
-use lib.IntN.{ℤ, pos, negsuc, nat_abs, ◌*ℤ◌}
+use Rattle.std.proofs.Common.{◌≡◌, refl, sym, ap, ◌∙◌, subst, Bool, true, false, ◌&&◌, List, [], ◌∷◌, ℕ, zero, suc, ◌+◌, ◌*◌, ◌^◌, ◌≤◌, ◌<◌, le_trans, arith, le-leb, ltb-false, T, leb, lit<, lit≤, ℤ, pos, negsuc, nat_abs, ◌*ℤ◌, Float, length}
 use lib.Signed.{lt_z, le_z}
-use lib.Ieee.{Float, le}
+use lib.Ieee.{le}
 use lib.Ieee.Scale.{finite}
-use lib.ListN.{length}
 use Rattle.numbers.specs.Lists.{entries}
 use Rattle.numbers.specs.Answers.{Answer, accepted, given}
 use Rattle.numbers.specs.Signs.{fits_i64}
@@ -26,7 +17,7 @@ use Rattle.beats.proofs.Laws.{beat_above}
 use Rattle.meter.specs.Meters.{points_of}
 use Rattle.meter.specs.Starts.{start_of, exact_start}
 use Rattle.meter.proofs.Laws.{fit_rising, fit_exact, fit_stored, start_zero}
-use Rattle.tempo.specs.declared.MapTest.TheVariants.{Fine}
+use Rattle.std.specs.Prelude.{Ok}
 use Rattle.tempo.specs.Answers.{map_test}
 use Rattle.tempo.specs.Tempos.{TempoPoint, tempo_points}
 use Rattle.tempo.specs.Rising.{RisingMap}
@@ -56,7 +47,7 @@ frame_up bpm (first ∷ rest) rate r a b A B h u =
 
 -- ---- lines
 
-module _ (t : Transport) (words : List ℕ) (nums : List ℤ) (dens tempos : List ℕ) (n : ℕ) (o : InOrder t words nums dens tempos) (m : map_test nums dens tempos ≡ Fine) (few : n ≤ 65536) where
+module _ (t : Transport) (words : List ℕ) (nums : List ℤ) (dens tempos : List ℕ) (n : ℕ) (o : InOrder t words nums dens tempos) (m : map_test nums dens tempos ≡ Ok tt) (few : n ≤ 65536) where
   abbrev start : ℕ → Beat
   start bar = start_of (points_of words) t.beats_per_bar t.pickup bar
 

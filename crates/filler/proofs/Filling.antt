@@ -1,14 +1,5 @@
 -- The loop over the lines: the entries before k are lines, those from k on are still marks, and what is carried holds: the segment, and the walks.
-use mathlib.Core.Path.{◌≡◌, refl, ap, ◌∙◌}
-use mathlib.Core.List.{List}
-use Prim.Native.Nat.{ℕ, ◌+◌, ◌≤◌, ◌<◌}
-use native.Mathlib.Nat.{ne_of_lt}
-use native.Mathlib.Omega.{arith}
-use borrow.Author.Count.{below_none, below_more}
-use lib.IntN.{ℤ}
-use lib.ListN.{length, get_or, set, replicate, length-set}
-use lib.Seq.{get_or-set_same, get_or-set_other}
-use lib.Ieee.{Float}
+use Rattle.std.proofs.Common.{◌≡◌, refl, ap, ◌∙◌, List, ℕ, ◌+◌, ◌≤◌, ◌<◌, ne_of_lt, arith, below_none, below_more, ℤ, length, get_or, set, replicate, length-set, get_or-set_same, get_or-set_other, Float}
 use Rattle.numbers.specs.Lists.{entries}
 use Rattle.numbers.proofs.Laws.{are_entries}
 use Rattle.beats.specs.declared.Beat.{Beat}

@@ -9,5 +9,4 @@ pub mod Wide
 pub mod Sixteenths
 pub mod Rising
 pub mod Descends
-pub mod Readings
 pub mod Laws

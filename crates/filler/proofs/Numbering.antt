@@ -1,12 +1,7 @@
 -- The marks of the bars give the number in force from bar to bar, and say where the meter may change.
-use mathlib.Core.Path.{◌≡◌, refl, sym, ap, ◌∙◌, subst}
-use mathlib.Core.List.{List, [], ◌∷◌}
-use Prim.Native.Nat.{ℕ, zero, suc, max, ◌+◌, ◌-◌, ◌*◌, ◌<◌, ◌≤◌}
-use native.Mathlib.Nat.{le_refl, min-eq_left, min-eq_right, max-eq_left, max-eq_right, suc-mul, suc-sub-suc, sub-zero}
-use native.Mathlib.Omega.{arith}
-use lib.Dec.{eqb}
-use lib.ListN.{length, get_or}
-use borrow.Author.Tests.{eq-eqb, ne_eqb, eqb-true, eqb-false, lt-ltb, le-ltb}
+use Rattle.std.proofs.Common.{◌≡◌, refl, sym, ap, ◌∙◌, subst, List, [], ◌∷◌, ℕ, zero, suc, max, ◌+◌, ◌-◌, ◌*◌, ◌<◌, ◌≤◌, le_refl, suc-mul, arith, eqb, length, get_or, eq-eqb, ne_eqb, eqb-true, lt-ltb, le-ltb}
+use Rattle.std.proofs.lemmas.Bool.{eqb-false}
+use native.Mathlib.Nat.{min-eq_left, min-eq_right, max-eq_left, max-eq_right, suc-sub-suc, sub-zero}
 use Rattle.numbers.proofs.Laws.{by_order, cases}
 use Rattle.meter.specs.declared.MeterPoint.{MeterPoint}
 use Rattle.meter.specs.Meters.{points_of, point_at, last_at, nearer, next_change, fallback, meter_at}

@@ -1,14 +1,7 @@
 -- From seconds that do not fall to frames that do not fall, and from beats in exact order to floats in order.
-use mathlib.Core.Path.{◌≡◌, refl, sym, ap, ◌∙◌, subst}
-use mathlib.Core.Bool.{Bool, true, false, ◌&&◌}
-use Prim.Native.Nat.{ℕ, zero, suc, ◌-◌, ◌*◌, ◌^◌, ◌≤◌, ◌<◌, zero-le}
-use native.Mathlib.Nat.{le_refl, le_of_eq, le_trans, not-le_of_lt, mul-pos, mul-one, mul-le-mul_left, zero-mul}
-use native.Mathlib.Omega.{arith}
-use lib.IntN.{ℤ, pos, negsuc, ◌*ℤ◌}
+use Rattle.std.proofs.Common.{◌≡◌, refl, sym, ap, ◌∙◌, subst, Bool, true, false, ◌&&◌, ℕ, zero, suc, ◌-◌, ◌*◌, ◌^◌, ◌≤◌, ◌<◌, zero-le, le_refl, le_of_eq, le_trans, not-le_of_lt, mul-pos, mul-one, mul-le-mul_left, zero-mul, arith, ℤ, pos, negsuc, ◌*ℤ◌, T, leb, ltb, ltb→lt, lt→ltb, lit<, lit≤, ltb-true, ltb-false, leb-true, Float}
 use lib.Signed.{lt_z, le_z}
-use lib.Dec.{T, leb, ltb, ltb→lt, lt→ltb, lit<, lit≤}
-use borrow.Author.Tests.{ltb-true, ltb-false, leb-true}
-use lib.Ieee.{Float, nan, inf, fin, binary64, is_nan, of_bits, lt, unlike, up, down, round, mul, div, of_int, to_unsigned}
+use lib.Ieee.{nan, inf, fin, binary64, is_nan, of_bits, lt, unlike, up, down, round, mul, div, of_int, to_unsigned}
 use lib.Ieee.Fits.{up_pos, down_pos}
 use lib.Ieee.Exact.{HasValue}
 use lib.Ieee.Back.{round_whole}

@@ -1,15 +1,8 @@
 -- A tempo map without problems whose numerators are small has points whose floats go up from 0.
-use mathlib.Core.Path.{◌≡◌, refl, sym, ap, ◌∙◌, subst}
-use mathlib.Core.Bool.{Bool, true, false, not, true≢false}
-use mathlib.Core.List.{List, [], ◌∷◌, ◌++◌, append-eq-nil_iff}
-use Prim.Native.Nat.{ℕ, suc, ◌*◌}
-use native.Mathlib.Nat.{suc-ne-zero}
-use native.Mathlib.Omega.{arith}
-use lib.Dec.{T}
-use lib.IntN.{ℤ, pos, negsuc}
-use lib.Ieee.{Float, inf, lt, le, binary32, of_bits}
-use borrow.Author.Tests.{not-false, le-ltb, eqb-true}
-use lib.ListN.{length}
+use Rattle.std.proofs.Common.{◌≡◌, refl, sym, ap, ◌∙◌, subst, Bool, true, false, not, true≢false, List, [], ◌∷◌, ◌++◌, ℕ, suc, ◌*◌, suc-ne-zero, arith, T, ℤ, pos, negsuc, Float, le-ltb, eqb-true, length}
+use Rattle.std.proofs.lemmas.Bool.{not-false}
+use mathlib.Core.List.{append-eq-nil_iff}
+use lib.Ieee.{inf, lt, le, binary32, of_bits}
 use Rattle.numbers.proofs.Laws.{and_left, and_right}
 use Rattle.rounding.specs.Floats.{float0}
 use Rattle.rounding.proofs.Laws.{up→le}

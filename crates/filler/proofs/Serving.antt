@@ -1,13 +1,6 @@
 -- The carried tempo walk: a point was passed because the beat is not at or before it, and then no later beat is; so where the walk for a beat stops, that for a later one may go on.
-use mathlib.Core.Path.{◌≡◌, refl, subst}
-use mathlib.Core.Bool.{Bool, true, false}
-use mathlib.Core.List.{List, [], ◌∷◌}
-use Prim.Native.Nat.{ℕ, zero, suc, ◌+◌, ◌≤◌, ◌<◌}
-use native.Mathlib.Omega.{arith}
-use lib.Dec.{T}
-use lib.IntN.{ℤ, pos}
-use lib.ListN.{length, get_or, set}
-use lib.Ieee.{Float, le}
+use Rattle.std.proofs.Common.{sym, ◌≡◌, refl, subst, Bool, true, false, List, [], ◌∷◌, ℕ, zero, suc, ◌+◌, ◌≤◌, ◌<◌, arith, T, ℤ, pos, length, get_or, set, Float}
+use lib.Ieee.{le}
 use Rattle.numbers.proofs.Laws.{holds}
 use Rattle.rounding.specs.Floats.{float0}
 use Rattle.beats.specs.Frames.{beat_float}
@@ -19,6 +12,10 @@ use Rattle.rounding.proofs.Laws.{le_trans_float}
 
 abbrev pub stand : Float → Float → Float → Float → ℕ → Stand
 stand beat secs from tempo next = record { beat = beat; secs = secs; from = from; tempo = tempo; next = next }
+
+-- a stand whose own beat and next point these are
+pub as_stand : (w : Stand) (beat : Float) (i : ℕ) → w.beat ≡ beat → w.next ≡ i → stand beat w.secs w.from w.tempo i ≡ w
+as_stand w beat i own next = λ t. stand (sym own t) w.secs w.from w.tempo (sym next t)
 
 module _ (nums : List ℤ) (dens tempos : List ℕ) (even : Parallel nums dens tempos) where
   -- ---- from one beat to another

@@ -1,23 +1,14 @@
 -- The starts of a score without meter problems have denominators that differ by a power of two alone: every bar but the first lasts a number of sixteenths,
 -- so each of two denominators divides sixteen times the other.
-use mathlib.Core.Path.{◌≡◌, refl, sym, ap, ◌∙◌, subst}
-use mathlib.Core.Bool.{true, ◌&&◌}
-use mathlib.Core.Logic.{inl, inr}
-use mathlib.Core.List.{List, [], ◌∷◌}
-use Prim.Native.Nat.{ℕ, zero, suc, ◌+◌, ◌-◌, ◌*◌, ◌/◌, ◌%◌, ◌^◌, ◌≤◌, ◌<◌, ◌∣◌}
-use native.Mathlib.Nat.{mul-pos, eq_of_mul-eq-mul_right, le_of_mul-le-mul_right, mul-div_cancel', add-suc, add-zero, mul_assoc, mul_right_comm, pow-succ', eq-one_of_dvd-one, dvd-mul_right, add-sub_of_le, zero-mul}
-use native.Mathlib.Omega.{arith}
-use lib.Dec.{leb, ltb, lit<}
-use lib.ListN.{length}
-use lib.IntN.{ℤ, pos, nat_abs, ◌*ℤ◌}
-use lib.Pow.{pow_pos, pow-add}
+use Rattle.std.proofs.Common.{Option, ◌≡◌, refl, sym, ap, ◌∙◌, subst, true, ◌&&◌, inl, inr, List, [], ◌∷◌, ℕ, zero, suc, ◌+◌, ◌-◌, ◌*◌, ◌/◌, ◌%◌, ◌^◌, ◌≤◌, ◌<◌, mul-pos, le_of_mul-le-mul_right, add-suc, add-zero, mul_assoc, mul_right_comm, add-sub_of_le, zero-mul, arith, leb, ltb, lit<, length, ℤ, pos, nat_abs, ◌*ℤ◌, pow_pos, pow-add}
+use Prim.Native.Nat.{◌∣◌}
+use native.Mathlib.Nat.{eq_of_mul-eq-mul_right, mul-div_cancel', pow-succ', eq-one_of_dvd-one, dvd-mul_right}
 use Rattle.numbers.proofs.Laws.{by_order, and_left, and_right}
 use Rattle.beats.specs.declared.Beat.{Beat}
 use Rattle.beats.specs.Beats.{is_beat}
 use Rattle.beats.specs.Values.{Worth}
 use Rattle.beats.proofs.Laws.{own_value, value_same, beat_above, beat_lowest, den_divides, sum_has}
 use Rattle.meter.specs.declared.MeterPoint.{MeterPoint}
-use Rattle.meter.specs.declared.Pickup.{Pickup}
 use Rattle.meter.specs.Meters.{later, last_at, fallback, meter_at, bar_len}
 use Rattle.meter.specs.Starts.{exact_start}
 use Rattle.meter.specs.Fits.{good_den, sound_from, first_zero, sound_map}
@@ -84,7 +75,7 @@ last_good (point ∷ rest) low bar found s g =
     (λ h. ap (λ (m : MeterPoint). good_den m.denominator) (later_out point bar found h) ∙ g)
     (λ h. ap (λ (m : MeterPoint). good_den m.denominator) (later_in point bar found h) ∙ and_left d more s₂))
 
-module _ (map : List MeterPoint) (default : ℕ) (pickup : Pickup) (sound : sound_map map ≡ true) where
+module _ (map : List MeterPoint) (default : ℕ) (pickup : Option Beat) (sound : sound_map map ≡ true) where
   abbrev exact : ℕ → Beat
   exact = exact_start map default pickup
 

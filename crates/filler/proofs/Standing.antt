@@ -1,18 +1,10 @@
 -- The carried segment: from bar to bar it keeps the walk by segments, so that each start is that of its bar asked by itself.
-use mathlib.Core.Path.{◌≡◌, refl, sym, ap, ◌∙◌, subst}
-use mathlib.Core.Bool.{true, false}
-use mathlib.Core.List.{List}
-use Prim.Native.Nat.{ℕ, max, ◌+◌, ◌-◌, ◌*◌, ◌<◌, ◌≤◌}
-use native.Mathlib.Nat.{le_refl}
-use native.Mathlib.Omega.{arith}
-use lib.Dec.{eqb, ltb}
-use lib.ListN.{length}
-use borrow.Author.Tests.{eq-eqb, ne_eqb, eqb-true, eqb-false, ltb-true, ltb-false, le-leb, lt-leb}
+use Rattle.std.proofs.Common.{Option, ◌≡◌, refl, sym, ap, ◌∙◌, subst, true, false, List, ℕ, max, ◌+◌, ◌-◌, ◌*◌, ◌<◌, ◌≤◌, le_refl, arith, eqb, ltb, length, eq-eqb, ne_eqb, eqb-true, ltb-true, ltb-false, le-leb}
+use Rattle.std.proofs.lemmas.Bool.{eqb-false, lt-leb}
 use Rattle.numbers.proofs.Laws.{by_order}
 use Rattle.beats.specs.declared.Beat.{Beat}
 use Rattle.beats.specs.Beats.{zero_beat}
 use Rattle.beats.specs.Sums.{add_beats, or_most}
-use Rattle.meter.specs.declared.Pickup.{Pickup}
 use Rattle.meter.specs.Meters.{points_of, len_of, bar_len, next_change}
 use Rattle.meter.specs.Starts.{after_bars, segments, start_of}
 use Rattle.meter.proofs.Laws.{points_length, len_rest, segments_over, segments_turn, one, start_zero, start_segments}
@@ -52,7 +44,7 @@ module _ (bar mark : ℕ) where
 
 -- ---- from bar to bar
 
-module _ (words : List ℕ) (default : ℕ) (pickup : Pickup) where
+module _ (words : List ℕ) (default : ℕ) (pickup : Option Beat) where
   pub at_open : (at len : Beat) → at ≡ zero_beat → len ≡ bar_len (points_of words) default pickup 0 → Before (points_of words) default pickup 0 (seg 0 at len 0)
   at_open at len p q =
       record {
@@ -193,7 +185,7 @@ module _ (words : List ℕ) (default : ℕ) (pickup : Pickup) where
         (λ k. let e : bar ≡ 1 → ⊥ = eqb-false bar 1 (sym (begins_first bar mark k) ∙ t) in same_first number n (omega (arith, e)))
 
 -- a segment that has a bar begins no later
-pub within : (words : List ℕ) (default : ℕ) (pickup : Pickup) (bar : ℕ) (s : Segment) → Has (points_of words) default pickup bar s → s.first ≤ bar
+pub within : (words : List ℕ) (default : ℕ) (pickup : Option Beat) (bar : ℕ) (s : Segment) → Has (points_of words) default pickup bar s → s.first ≤ bar
 within words default pickup bar s has =
     by_order 0 bar
     (λ h. let r = has.next.reaching (omega arith) in omega (arith, r.below))

@@ -1,14 +1,6 @@
 -- Beats whose denominators differ by a power of two alone keep their order as floats, whatever their numerators of 64 bits: a power of two goes through the rounding of a numerator.
-use mathlib.Core.Path.{◌≡◌, sym, ap, subst, ◌∙◌}
-use mathlib.Core.Bool.{true, false}
-use mathlib.Core.Logic.{◌⊎◌, ⊎_elim}
-use Prim.Native.Nat.{ℕ, ◌*◌, ◌^◌, ◌≤◌, ◌<◌, zero-le}
-use native.Mathlib.Nat.{le_trans, le_of_eq, mul-pos, mul-one, one-mul, mul_comm, mul_assoc, mul_left_comm, mul-le-mul, mul-le-mul_right, le_of_mul-le-mul_right, lt_of_lt_of_le, zero-mul, mul_right_comm}
-use native.Mathlib.Omega.{arith}
-use lib.IntN.{pos}
-use lib.Dec.{T, lit<, lit≤}
-use lib.Pow.{pow_pos}
-use lib.Ieee.{Float, nan, inf, fin, low, binary64, up, down, round, of_int}
+use Rattle.std.proofs.Common.{◌≡◌, sym, ap, subst, ◌∙◌, true, false, ◌⊎◌, ⊎_elim, ℕ, ◌*◌, ◌^◌, ◌≤◌, ◌<◌, zero-le, le_trans, le_of_eq, mul-pos, mul-one, one-mul, mul_comm, mul_assoc, mul_left_comm, mul-le-mul, mul-le-mul_right, le_of_mul-le-mul_right, lt_of_lt_of_le, zero-mul, mul_right_comm, arith, pos, T, lit<, lit≤, pow_pos, Float}
+use lib.Ieee.{nan, inf, fin, low, binary64, up, down, round, of_int}
 use lib.Ieee.Fits.{down_pos}
 use lib.Ieee.Exact.{HasValue}
 use lib.Ieee.Back.{round_whole}

@@ -1,11 +1,10 @@
 -- What is carried from line to line: a segment of bars of one length, and where the walks over the tempo map stand.
-use Rattle.std.specs.Prelude.{Bool, cond, ◌≡◌, List, [], ◌∷◌, ℕ, ◌+◌, ◌-◌, ◌≤◌, ◌<◌, T, leb, ltb, eqb, ℤ, Float, length, drop}
+use Rattle.std.specs.Prelude.{Bool, cond, ◌≡◌, List, [], ◌∷◌, ℕ, ◌+◌, ◌-◌, ◌≤◌, ◌<◌, T, leb, ltb, eqb, ℤ, Float, length, drop, Option}
 use Rattle.std.specs.Float.Ieee.{le}
 use Rattle.beats.specs.declared.Beat.{Beat}
 use Rattle.beats.specs.Beats.{zero_beat}
 use Rattle.beats.specs.Sums.{add_beats, or_most}
 use Rattle.meter.specs.declared.MeterPoint.{MeterPoint}
-use Rattle.meter.specs.declared.Pickup.{Pickup}
 use Rattle.meter.specs.Meters.{bar_len}
 use Rattle.meter.specs.Starts.{after_bars, segments, start_of}
 use Rattle.tempo.specs.Tempos.{TempoPoint, tempo_points, elapsed, walk, reaches, seconds_to, seconds_at_beat}
@@ -32,7 +31,7 @@ abbrev pub Clear : ℕ → ℕ → List MeterPoint → Type 0
 Clear first bar [] = Unit
 Clear first bar (point ∷ rest) = (first < point.bar → bar ≤ point.bar) × Clear first bar rest
 
-module _ (map : List MeterPoint) (default : ℕ) (pickup : Pickup) where
+module _ (map : List MeterPoint) (default : ℕ) (pickup : Option Beat) where
   -- bar 0 alone
   pub record Opened (s : Segment) : Type 0 where
     pub first : s.first ≡ 0

@@ -4,46 +4,45 @@
 // `behind` has the walks to these.
 ghost use Rattle.std.specs.Prelude.{◌≡◌, ◌≤◌, length};
 ghost use Rattle.meter.specs.Meters.{points_of};
-ghost use Rattle.tempo.specs.Tempos.{Parallel, tempo_points};
+ghost use Rattle.tempo.specs.Maps.{points};
 ghost use Rattle.filler.specs.Fills.{bar_lines};
 
-use crate::{marks, segments, stands};
+use crate::marks;
+use crate::segments::Segment;
+use crate::stands::{self, Stand};
 use beats::frames;
+use meter::bars::MeterMap;
+use tempo::TempoMap;
 use transport::Transport;
 
-pub fn fill(
-    t: Transport,
-    words: &[u32],
-    nums: &[i64],
-    dens: &[u32],
-    tempos: &[u32],
-    out: &mut [u64],
-)
-    requires parallel { Parallel nums.now dens.now tempos.now }
-    requires out_len_bound { length out.old ≤ 65536 }
-    ensures { out.new ≡ bar_lines t (points_of words.now) (tempo_points nums.now dens.now tempos.now) (length out.old) }
+pub fn fill(t: Transport, words: &[u32], map: &TempoMap, out: &mut [u64])
+    requires { length out.old ≤ 65536 }
+    ensures { out.new ≡ bar_lines t (points_of words.now) (points map.now) (length out.old) }
 {
     marks::mark(words, out);
-    let mut seg = segments::open(t, words);
-    let mut ahead = stands::begin(nums, dens, tempos);
+    let bars = MeterMap {
+        words,
+        default: t.beats_per_bar,
+        pickup: t.pickup,
+    };
+    let mut segment = Segment::open(&bars);
+    let mut ahead = Stand::begin(map);
     let mut behind = [ahead; stands::PLACES];
-    let mut k: usize = 0;
-    while k < out.len() {
+    for (k, line) in out.iter_mut().enumerate() {
         let bar = k as u32;
-        seg = segments::on_to(t, words, bar, out[k], seg);
-        let beat = frames::float_of(segments::start_in(seg, bar));
+        segment = segment.on_to(&bars, bar, *line);
+        let beat = frames::float_of(segment.start_of(bar));
         let from = if ahead.beat <= beat {
             ahead
         } else {
-            stands::resume(nums, dens, tempos, beat, behind[stands::place_of(beat)])
+            behind[stands::place_of(beat)].resume(map, beat)
         };
-        let stand = stands::walk_to(nums, dens, tempos, beat, from);
-        out[k] = stands::frame_at(t, nums, dens, tempos, stand);
+        let stand = from.walk_to(map, beat);
+        *line = stand.frame(t, map);
         if ahead.beat <= beat {
             ahead = stand;
         } else {
             behind[stands::place_of(beat)] = stand;
         }
-        k += 1;
     }
 }

@@ -2,14 +2,14 @@
 // the lines and of the maps: what a line needs of the maps is carried on to the next.
 #![tactic(auto)]
 
-ghost use Rattle.std.specs.Prelude.{◌≡◌};
-ghost use Rattle.timeline.specs.Tests.{test_of, worse, maps_test};
+ghost use Rattle.std.specs.Prelude.{◌≡◌, IfOk};
+ghost use Rattle.numbers.specs.Refusals.{read};
+ghost use Rattle.timeline.specs.Tests.{test_of, worse, maps_test, told};
 ghost use Rattle.filler.specs.Fills.{lines_test, fill_answer, fill_after};
-ghost use Rattle.filler.specs.Readings.{read_fill};
 
-use tempo::MapTest;
+use numbers::Refusal;
+use tempo::TempoMap;
 use timeline::tests;
-use timeline::tests::{Refusal, Test};
 use transport::Transport;
 
 mod bar_lines;
@@ -17,32 +17,32 @@ mod marks;
 mod segments;
 mod stands;
 
-#[derive(Clone, Copy)]
-pub enum FillAnswer {
-    Filled,
-    Refused(Refusal),
-}
-
 // How many lines there are.
-fn lines_test(n: usize) -> MapTest
+fn lines_test(n: usize) -> Result<(), Refusal>
     ensures { result ≡ lines_test n }
 {
     if n <= 65536 {
-        MapTest::Fine
+        Ok(())
     } else {
-        MapTest::TooLong
+        Err(Refusal::TooLong)
     }
 }
 
-// 12, then 3, 4 and 1 of the maps and of the lines.
-fn test(t: Transport, words: &[u32], nums: &[i64], dens: &[u32], tempos: &[u32], n: usize) -> Test
-    ensures { result ≡ test_of t (worse (lines_test n) (maps_test words.now nums.now dens.now tempos.now)) }
+// The tempo map; 12, then 3, 4 and 1 of the maps and of the lines.
+fn test<'a>(
+    t: Transport,
+    words: &[u32],
+    nums: &'a [i64],
+    dens: &'a [u32],
+    tempos: &'a [u32],
+    n: usize,
+) -> Result<TempoMap<'a>, Refusal>
+    ensures test { told result ≡ test_of t (worse (lines_test n) (maps_test words.now nums.now dens.now tempos.now)) }
+    ensures lists { IfOk result (λ map. (map.nums.now ≡ nums.now) × (map.dens.now ≡ dens.now) × (map.tempos.now ≡ tempos.now)) }
 {
-    if !t.is_sound() {
-        return Test::Refused(Refusal::Unsound);
-    }
     let maps = tests::worse(tests::words_test(words), tempo::test(nums, dens, tempos));
-    tests::found(tests::worse(lines_test(n), maps))
+    tests::found(t, tests::worse(lines_test(n), maps))?;
+    Ok(TempoMap { nums, dens, tempos })
 }
 
 // Fill the whole list, entry k with the frame of bar k.
@@ -53,15 +53,11 @@ pub fn fill_lines(
     dens: &[u32],
     tempos: &[u32],
     out: &mut [u64],
-) -> FillAnswer
-    ensures result_value { read_fill result ≡ fill_answer t words.now nums.now dens.now tempos.now out.old }
+) -> Result<(), Refusal>
+    ensures result_value { read result ≡ fill_answer t words.now nums.now dens.now tempos.now out.old }
     ensures out_after { out.new ≡ fill_after t words.now nums.now dens.now tempos.now out.old }
 {
-    match test(t, words, nums, dens, tempos, out.len()) {
-        Test::Refused(why) => FillAnswer::Refused(why),
-        Test::Sound => {
-            bar_lines::fill(t, words, nums, dens, tempos, out);
-            FillAnswer::Filled
-        }
-    }
+    let map = test(t, words, nums, dens, tempos, out.len())?;
+    bar_lines::fill(t, words, &map, out);
+    Ok(())
 }

@@ -4,14 +4,12 @@ ghost use Rattle.std.specs.Prelude.{[], length};
 ghost use Rattle.meter.specs.Meters.{points_of};
 ghost use Rattle.filler.specs.Numbers.{Marked};
 
+use meter::bars::Points;
+
 fn clear(out: &mut [u64])
     ensures { Marked [] (length out.old) out.new }
 {
-    let mut k: usize = 0;
-    while k < out.len() {
-        out[k] = 0;
-        k += 1;
-    }
+    out.fill(0);
 }
 
 // One pass over the map, whatever the order of its points.
@@ -20,13 +18,11 @@ pub fn mark(words: &[u32], out: &mut [u64])
 {
     clear(out);
     let mut number: u64 = 0;
-    let mut i: usize = 0;
-    while i + 2 < words.len() {
-        let bar = words[i] as usize;
+    for point in Points::new(words) {
+        let bar = point.bar as usize;
         number += 1;
         if bar < out.len() {
             out[bar] = number;
         }
-        i += 3;
     }
 }

@@ -6,10 +6,10 @@ ghost use Rattle.filler.specs.Numbers.{mark_of, numbered};
 ghost use Rattle.filler.specs.Carried.{begins, end_of, start_in, Before, Has};
 
 use beats::{Beat, sums};
-use meter::{MeterPoint, bars};
-use transport::Transport;
+use meter::MeterPoint;
+use meter::bars::{self, MeterMap};
 
-#[derive(Clone, Copy)]
+#[derive(Clone, Copy, Debug, PartialEq, Eq)]
 pub struct Segment {
     pub first: u32,
     pub at: Beat,
@@ -17,50 +17,22 @@ pub struct Segment {
     pub number: u64,
 }
 
-// Bar 0.
-pub fn open(t: Transport, words: &[u32]) -> Segment
-    ensures { Before (points_of words.now) t.beats_per_bar t.pickup 0 result }
-{
-    let pickup = t.pickup;
-    let at = Beat::zero();
-    let len = bars::length(words, t.beats_per_bar, pickup, 0);
-    Segment {
-        first: 0,
-        at,
-        len,
-        number: 0,
-    }
-}
-
 // The length of the bars of a point's meter.
-fn length_of(words: &[u32], default: u32, number: u64) -> Beat
-    requires { number * 3 ≤ length words.now }
-    ensures { result ≡ len_of (numbered words.now default number) }
+fn length_of(map: &MeterMap, number: u64) -> Beat
+    requires { number * 3 ≤ length map.now.words.now }
+    ensures { result ≡ len_of (numbered map.now.words.now map.now.default number) }
 {
     if number == 0 {
-        return bars::unlisted(default).len();
+        return bars::unlisted(map.default).len();
     }
     let i = (number as usize - 1) * 3;
+    let words = map.words;
     let meter = MeterPoint {
         bar: words[i],
         numerator: words[i + 1],
         denominator: words[i + 2],
     };
     meter.len()
-}
-
-// Where the segment ends that the bar follows.
-fn end_of(segment: Segment, bar: u32) -> Beat
-    requires { segment.first ≤ bar }
-    ensures { result ≡ end_of segment bar }
-{
-    let at = segment.at;
-    let len = segment.len;
-    if segment.first == 0 {
-        sums::add(at, len).or_most()
-    } else {
-        bars::after_bars(at, len, bar - segment.first)
-    }
 }
 
 // Whether a bar begins a segment: bar 1 does, and after it each bar that a point is listed for.
@@ -70,47 +42,58 @@ fn begins(bar: u32, mark: u64) -> bool
     if bar <= 1 { bar == 1 } else { mark > 0 }
 }
 
-// The segment that the next bar lies in: a new one where the bar begins one.
-pub fn on_to(t: Transport, words: &[u32], bar: u32, mark: u64, segment: Segment) -> Segment
-    requires before { Before (points_of words.now) t.beats_per_bar t.pickup bar segment }
-    requires mark_value { mark ≡ mark_of (points_of words.now) bar }
-    ensures { Has (points_of words.now) t.beats_per_bar t.pickup bar result }
-{
-    let number = if segment.number < mark {
-        mark
-    } else {
-        segment.number
-    };
-    if begins(bar, mark) {
-        let at = end_of(segment, bar);
-        let len = length_of(words, t.beats_per_bar, number);
-        return Segment {
-            first: bar,
-            at,
-            len,
-            number,
-        };
+impl Segment {
+    // Bar 0.
+    pub fn open(map: &MeterMap) -> Segment
+        ensures { Before (points_of map.now.words.now) map.now.default map.now.pickup 0 result }
+    {
+        Segment {
+            first: 0,
+            at: Beat::zero(),
+            len: map.length(0),
+            number: 0,
+        }
     }
-    let at = segment.at;
-    let len = segment.len;
-    Segment {
-        first: segment.first,
-        at,
-        len,
-        number,
-    }
-}
 
-// Where a bar of the segment starts.
-pub fn start_in(segment: Segment, bar: u32) -> Beat
-    requires { segment.first ≤ bar }
-    ensures { result ≡ start_in segment bar }
-{
-    let at = segment.at;
-    let len = segment.len;
-    if bar == segment.first {
-        at
-    } else {
-        bars::after_bars(at, len, bar - segment.first)
+    // Where the segment ends that the bar follows.
+    fn end_before(self, bar: u32) -> Beat
+        requires { self.first ≤ bar }
+        ensures { result ≡ end_of self bar }
+    {
+        if self.first == 0 {
+            sums::or_most(sums::add(self.at, self.len))
+        } else {
+            bars::after_bars(self.at, self.len, bar - self.first)
+        }
+    }
+
+    // The segment that the next bar lies in: a new one where the bar begins one.
+    pub fn on_to(self, map: &MeterMap, bar: u32, mark: u64) -> Segment
+        requires before { Before (points_of map.now.words.now) map.now.default map.now.pickup bar self }
+        requires mark_value { mark ≡ mark_of (points_of map.now.words.now) bar }
+        ensures { Has (points_of map.now.words.now) map.now.default map.now.pickup bar result }
+    {
+        let number = self.number.max(mark);
+        if begins(bar, mark) {
+            return Segment {
+                first: bar,
+                at: self.end_before(bar),
+                len: length_of(map, number),
+                number,
+            };
+        }
+        Segment { number, ..self }
+    }
+
+    // Where a bar of the segment starts.
+    pub fn start_of(self, bar: u32) -> Beat
+        requires { self.first ≤ bar }
+        ensures { result ≡ start_in self bar }
+    {
+        if bar == self.first {
+            self.at
+        } else {
+            bars::after_bars(self.at, self.len, bar - self.first)
+        }
     }
 }

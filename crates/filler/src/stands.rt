@@ -4,40 +4,22 @@
 ghost use Rattle.std.specs.Prelude.{◌≡◌, ◌%◌};
 ghost use Rattle.std.specs.Float.Ieee.{to_bits};
 ghost use Rattle.std.specs.Float.{binary64};
-ghost use Rattle.tempo.specs.Tempos.{Parallel, tempo_points};
+ghost use Rattle.tempo.specs.Maps.{points};
 ghost use Rattle.timeline.specs.Places.{frame_at_beat};
 ghost use Rattle.filler.specs.Carried.{Serves, ServesAll, Stopped};
 
 use beats::{Beat, frames};
-use tempo::walks;
+use tempo::{TempoMap, walks};
 use timeline::places;
 use transport::Transport;
 
-#[derive(Clone, Copy)]
+#[derive(Clone, Copy, Debug, PartialEq)]
 pub struct Stand {
     pub beat: f64,
     pub secs: f64,
     pub from: f64,
     pub tempo: f64,
     pub next: usize,
-}
-
-// The beginning serves every beat.
-pub fn begin(nums: &[i64], dens: &[u32], tempos: &[u32]) -> Stand
-    requires { Parallel nums.now dens.now tempos.now }
-    ensures { ServesAll nums.now dens.now tempos.now result }
-{
-    Stand {
-        beat: 0.0,
-        secs: 0.0,
-        from: 0.0,
-        tempo: if tempos.len() == 0 {
-            1.0
-        } else {
-            walks::tempo_of(tempos[0])
-        },
-        next: 1,
-    }
 }
 
 // How many walks are kept for the beats that fall behind the latest.
@@ -51,68 +33,72 @@ pub fn place_of(beat: f64) -> usize
     rounding::f64_word(beat) as usize % PLACES
 }
 
-// Where to go on for a beat: from a walk, and where the beat falls behind it, from the beginning.
-pub fn resume(nums: &[i64], dens: &[u32], tempos: &[u32], beat: f64, stand: Stand) -> Stand
-    requires parallel { Parallel nums.now dens.now tempos.now }
-    requires serves { Serves nums.now dens.now tempos.now stand.beat stand }
-    ensures { Serves nums.now dens.now tempos.now beat result }
-{
-    if stand.beat <= beat {
-        return stand;
-    }
-    begin(nums, dens, tempos)
-}
-
-// Past the points that lie before a beat.
-pub fn walk_to(nums: &[i64], dens: &[u32], tempos: &[u32], beat: f64, stand: Stand) -> Stand
-    requires parallel { Parallel nums.now dens.now tempos.now }
-    requires serves { Serves nums.now dens.now tempos.now beat stand }
-    ensures beat_value { result.beat ≡ beat }
-    ensures stopped { Stopped nums.now dens.now tempos.now result }
-{
-    let mut secs: f64 = stand.secs;
-    let mut from: f64 = stand.from;
-    let mut tempo: f64 = stand.tempo;
-    let mut i: usize = stand.next;
-    while i < nums.len() {
-        let at: f64 = frames::float_of(Beat {
-            num: nums[i],
-            den: dens[i],
-        });
-        if beat <= at {
-            return Stand {
-                beat,
-                secs,
-                from,
-                tempo,
-                next: i,
-            };
+impl Stand {
+    // The beginning serves every beat.
+    pub fn begin(map: &TempoMap) -> Stand
+        ensures { ServesAll map.now.nums.now map.now.dens.now map.now.tempos.now result }
+    {
+        let tempo = if map.is_empty() {
+            1.0
+        } else {
+            walks::tempo_of(map.tempos[0])
+        };
+        Stand {
+            beat: 0.0,
+            secs: 0.0,
+            from: 0.0,
+            tempo,
+            next: 1,
         }
-        secs = walks::later(secs, from, at, tempo);
-        from = at;
-        tempo = walks::tempo_of(tempos[i]);
-        i += 1;
     }
-    Stand {
-        beat,
-        secs,
-        from,
-        tempo,
-        next: i,
-    }
-}
 
-// The frame of the beat that the walk was taken to. Where the map has no points there is no walk.
-pub fn frame_at(t: Transport, nums: &[i64], dens: &[u32], tempos: &[u32], stand: Stand) -> u64
-    requires parallel { Parallel nums.now dens.now tempos.now }
-    requires stopped { Stopped nums.now dens.now tempos.now stand }
-    ensures { result ≡ frame_at_beat t (tempo_points nums.now dens.now tempos.now) stand.beat }
-{
-    if nums.len() == 0 {
-        return places::frame_at_beat(t, stand.beat, nums, dens, tempos);
+    // Where to go on for a beat: from a walk, and where the beat falls behind it, from the beginning.
+    pub fn resume(self, map: &TempoMap, beat: f64) -> Stand
+        requires { Serves map.now.nums.now map.now.dens.now map.now.tempos.now self.beat self }
+        ensures { Serves map.now.nums.now map.now.dens.now map.now.tempos.now beat result }
+    {
+        if self.beat <= beat {
+            return self;
+        }
+        Stand::begin(map)
     }
-    frames::frames_at(
-        walks::later(stand.secs, stand.from, stand.beat, stand.tempo),
-        t.sample_rate,
-    )
+
+    // Past the points that lie before a beat.
+    pub fn walk_to(self, map: &TempoMap, beat: f64) -> Stand
+        requires { Serves map.now.nums.now map.now.dens.now map.now.tempos.now beat self }
+        ensures beat_value { result.beat ≡ beat }
+        ensures stopped { Stopped map.now.nums.now map.now.dens.now map.now.tempos.now result }
+    {
+        let mut stand = Stand { beat, ..self };
+        // Stays: a map is three parallel lists, as document 01 and C lend it, and a zip of three from `next`
+        // on is no plainer.
+        for i in self.next..map.len() {
+            let at = frames::float_of(Beat {
+                num: map.nums[i],
+                den: map.dens[i],
+            });
+            if beat <= at {
+                return stand;
+            }
+            stand.secs = walks::later(stand.secs, stand.from, at, stand.tempo);
+            stand.from = at;
+            stand.tempo = walks::tempo_of(map.tempos[i]);
+            stand.next = i + 1;
+        }
+        stand
+    }
+
+    // The frame of the beat that the walk was taken to. Where the map has no points there is no walk.
+    pub fn frame(self, t: Transport, map: &TempoMap) -> u64
+        requires { Stopped map.now.nums.now map.now.dens.now map.now.tempos.now self }
+        ensures { result ≡ frame_at_beat t (points map.now) self.beat }
+    {
+        if map.is_empty() {
+            return places::frame_at_beat(t, self.beat, map);
+        }
+        frames::frames_at(
+            walks::later(self.secs, self.from, self.beat, self.tempo),
+            t.sample_rate,
+        )
+    }
 }

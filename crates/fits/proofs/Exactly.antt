@@ -1,4 +1,5 @@
 -- The decision is exact. Going over the points that are left, each segment stands for its bars: its two last starts are accepted exactly where all of its starts are.
+use Rattle.std.proofs.Common.{Option}
 use mathlib.Core.Path.{◌≡◌, refl, sym, ap, ◌∙◌}
 use mathlib.Core.Bool.{Bool, true, false, cond, ◌&&◌}
 use mathlib.Core.List.{List, [], ◌∷◌}
@@ -14,7 +15,6 @@ use Rattle.beats.specs.Beats.{zero_beat}
 use Rattle.beats.specs.Sums.{add_beats}
 use Rattle.beats.proofs.Laws.{zero_beat_lem}
 use Rattle.meter.specs.declared.MeterPoint.{MeterPoint}
-use Rattle.meter.specs.declared.Pickup.{Pickup}
 use Rattle.meter.specs.Meters.{fallback, meter_at, len_of, bar_len, last_at, next_change}
 use Rattle.meter.specs.Starts.{checked_bars, checked_segments, checked_start}
 use Rattle.meter.specs.Fits.{good_den, sound_from, first_zero, sound_map, forward_pickup, Fits, last_bar}
@@ -75,7 +75,7 @@ walked_past (point ∷ rest) bar meter at h =
     let z : min point.bar last_bar ≤ bar = omega arith in
     (λ t. walked rest (m t) point (reach_none bar (min point.bar last_bar) meter at z t)) ∙ walked_past rest bar point at h
 
-module _ (map : List MeterPoint) (default : ℕ) (pickup : Pickup) where
+module _ (map : List MeterPoint) (default : ℕ) (pickup : Option Beat) where
   abbrev walk : ℕ → ℕ → ℕ → Beat → Answer Beat
   walk = checked_segments map default pickup
 

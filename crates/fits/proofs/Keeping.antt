@@ -6,14 +6,14 @@ use Prim.Native.Nat.{ℕ, ◌*◌, ◌%◌}
 use native.Mathlib.Omega.{arith}
 use lib.Dec.{leb, eqb}
 use lib.ListN.{length}
+use Rattle.std.proofs.Common.{Ok}
 use Rattle.numbers.specs.Answers.{accepted, refused}
+use Rattle.numbers.specs.Refusals.{read}
+use Rattle.numbers.proofs.Laws.{results_apart}
 use Rattle.meter.specs.Meters.{points_of, sound_pickup}
 use Rattle.meter.proofs.Laws.{points_length, points_few, forward_sound, passed}
-use Rattle.fits.specs.declared.FitsAnswer.TheVariants as F
 use Rattle.fits.specs.Decision.{fits_bool}
-use Rattle.fits.specs.Readings.{read_fits}
 use Rattle.fits.specs.Promise.{Exact, FitsPromise}
-use Rattle.fits.proofs.Readings.{fits_apart}
 use Rattle.fits.proofs.Exactly.{decided, complete}
 
 pub fits_exactly : Exact
@@ -30,9 +30,9 @@ pub fits_keeps : FitsPromise
 fits_keeps words default pickup answer e = (
   (λ q.
       decided (points_of words) default pickup
-      (behind (eqb (length words % 3) 0) (leb (length words) (65536 * 3)) (sound_pickup pickup) (fits_bool (points_of words) default pickup) (sym (ap read_fits q) ∙ e))),
+      (behind (eqb (length words % 3) 0) (leb (length words) (65536 * 3)) (sound_pickup pickup) (fits_bool (points_of words) default pickup) (sym (ap read q) ∙ e))),
   (λ even fits.
-      fits_apart answer F.Fits (e
+      results_apart answer (Ok true) (e
       ∙ sym (ap accepted (sym (complete (points_of words) default pickup fits))
       ∙ passed words pickup (accepted (fits_bool (points_of words) default pickup)) even
       (omega (arith, points_length words, points_few (points_of words) fits.sound)) (forward_sound pickup fits.forward)))),

@@ -2,7 +2,5 @@
 
 -- the decision is yes exactly for a score that fits
 pub use Rattle.fits.proofs.Keeping.{fits_exactly}
--- the answer of the call is Fits exactly for a score that fits
+-- the answer of the call is Ok(true) exactly for a score that fits
 pub use Rattle.fits.proofs.Keeping.{fits_keeps}
--- no two cases of the answer read alike
-pub use Rattle.fits.proofs.Readings.{fits_apart}

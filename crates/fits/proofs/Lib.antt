@@ -1,7 +1,6 @@
 pub mod Sounding
 pub mod Walking
 pub mod Parts
-pub mod Readings
 pub mod Odd
 pub mod Segments
 pub mod Exactly

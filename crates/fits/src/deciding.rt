@@ -6,28 +6,29 @@ ghost use Rattle.meter.specs.Fits.{forward_pickup};
 ghost use Rattle.fits.specs.Decision.{fits_bool};
 
 use crate::{sound, walk};
-use meter::Pickup;
+use beats::Beat;
+use meter::bars::MeterMap;
 
 // Whether a pickup is absent or not below 0.
-fn forward(pickup: Pickup) -> bool
+fn forward(pickup: Option<Beat>) -> bool
     requires { sound_pickup pickup ≡ true }
     ensures { result ≡ forward_pickup pickup }
 {
     match pickup {
-        Pickup::Absent => true,
-        Pickup::Present(beat) => !numbers::negative(beat.num),
+        None => true,
+        Some(beat) => !numbers::negative(beat.num),
     }
 }
 
-pub fn decide(words: &[u32], default: u32, pickup: Pickup) -> bool
-    requires { sound_pickup pickup ≡ true }
-    ensures { result ≡ fits_bool (points_of words.now) default pickup }
+pub fn decide(map: &MeterMap) -> bool
+    requires { sound_pickup map.now.pickup ≡ true }
+    ensures { result ≡ fits_bool (points_of map.now.words.now) map.now.default map.now.pickup }
 {
-    if !sound::map(words) {
+    if !sound::map(map.words) {
         return false;
     }
-    if !forward(pickup) {
+    if !forward(map.pickup) {
         return false;
     }
-    walk::passes(words, default, pickup)
+    walk::passes(map)
 }

@@ -5,41 +5,20 @@
 #![tactic(auto)]
 
 ghost use Rattle.std.specs.Prelude.{◌≡◌};
+ghost use Rattle.numbers.specs.Refusals.{read};
 ghost use Rattle.fits.specs.Answers.{fits_answer};
-ghost use Rattle.fits.specs.Readings.{read_fits};
 
-use meter::Pickup;
+use beats::Beat;
+use numbers::Refusal;
 
 pub mod deciding;
 mod sound;
 mod walk;
 
-// Whether it fits, or what refuses it: Uneven 3, TooLong 4, NotBeat 1.
-#[derive(Clone, Copy)]
-pub enum FitsAnswer {
-    Fits,
-    DoesNot,
-    Uneven,
-    TooLong,
-    NotBeat,
-}
-
 // Whether a score fits, for a meter map of flat words, three a point.
-pub fn fits(words: &[u32], default: u32, pickup: Pickup) -> FitsAnswer
-    ensures { read_fits result ≡ fits_answer words.now default pickup }
+pub fn fits(words: &[u32], default: u32, pickup: Option<Beat>) -> Result<bool, Refusal>
+    ensures { read result ≡ fits_answer words.now default pickup }
 {
-    if words.len() % 3 != 0 {
-        return FitsAnswer::Uneven;
-    }
-    if words.len() > meter::MOST_WORDS {
-        return FitsAnswer::TooLong;
-    }
-    if !pickup.is_sound() {
-        return FitsAnswer::NotBeat;
-    }
-    if deciding::decide(words, default, pickup) {
-        FitsAnswer::Fits
-    } else {
-        FitsAnswer::DoesNot
-    }
+    let map = meter::tested(words, default, pickup)?;
+    Ok(deciding::decide(&map))
 }

@@ -13,16 +13,15 @@ use Rattle.score_writer.specs.Answers.{write_answer, written_into}
 use Rattle.splits.specs.Splits.{lines, words, body, split, filled, in_front, run, longer, few, same}
 use Rattle.items.specs.Items.{item_of, key_item, sole_number, number_value, rate_item, beats_item, tempo_item, tempo_by, tempo_value, pickup_item, pickup_by, beat_value}
 use Rattle.items.specs.declared.Reason.TheVariants.{Twice, NoRate}
-use Rattle.form.specs.declared.FormAnswer.TheVariants.{Wrong}
-use Rattle.form.specs.Drafts.{empty, unless_said, unless_pickup, with_rate, with_beats, with_tempo, with_pickup, needed, finished}
-use Rattle.form.specs.Forms.{keeping, taken, taken_by, onward, walk, start, outcome, last_line, file_answer, file_bytes, end_answer, end_bytes, form_answer, form_bytes}
+use Rattle.form.specs.Drafts.{empty, unless_said, with_rate, with_beats, with_tempo, with_pickup, needed, finished}
+use Rattle.form.specs.Forms.{wrong_at, keeping, taken, taken_by, onward, walk, start, outcome, last_line, file_answer, file_bytes, end_answer, end_bytes, form_answer, form_bytes}
 
 -- an empty text counts as one line
-pub nothing : form_answer [] ≡ Wrong 1 NoRate
+pub nothing : form_answer [] ≡ wrong_at 1 NoRate
 nothing = unfold form_answer end_answer file_answer last_line outcome walk start lines split empty finished needed in refl
 
 -- `rate 1`, `rate 2`
-pub twice : form_answer (114 ∷ 97 ∷ 116 ∷ 101 ∷ 32 ∷ 49 ∷ 10 ∷ 114 ∷ 97 ∷ 116 ∷ 101 ∷ 32 ∷ 50 ∷ 10 ∷ []) ≡ Wrong 2 Twice
+pub twice : form_answer (114 ∷ 97 ∷ 116 ∷ 101 ∷ 32 ∷ 49 ∷ 10 ∷ 114 ∷ 97 ∷ 116 ∷ 101 ∷ 32 ∷ 50 ∷ 10 ∷ []) ≡ wrong_at 2 Twice
 twice =
     unfold form_answer end_answer taken taken_by keeping onward walk start outcome empty unless_said with_rate in
     unfold lines words body split filled in_front run longer few same in
@@ -48,6 +47,6 @@ file =
     unfold item_of key_item sole_number number_value rate_item beats_item tempo_item tempo_by tempo_value pickup_item pickup_by beat_value in
     unfold number_of some_digits number_by value_from all_are_digits digit_of numerator_of denominator_of beat_of tempo_of is_bits decimal_tempo behind_point gcd_of remainders in
     unfold span climb size odd units round div of_int to_bits in
-    unfold taken taken_by keeping onward walk start outcome empty unless_said unless_pickup with_rate with_beats with_tempo with_pickup needed finished in
+    unfold taken taken_by keeping onward walk start outcome empty unless_said with_rate with_beats with_tempo with_pickup needed finished in
     unfold write_answer written_into file_of header_words tempo_words words_bytes word_bytes bits_of all_beats in
     refl

@@ -1,4 +1,5 @@
 -- The writer refuses nothing that a text says: its beats are in lowest terms, and its points within the limits.
+use Rattle.std.proofs.Common.{Option, None, Some, Result, Ok, Err}
 use mathlib.Core.Path.{◌≡◌, refl, ap, ◌∙◌}
 use mathlib.Core.Bool.{Bool, true, false, cond, ◌&&◌}
 use mathlib.Core.List.{List, [], ◌∷◌, ◌++◌}
@@ -12,8 +13,6 @@ use Rattle.numbers.specs.Answers.{accepted, refused}
 use Rattle.numbers.proofs.Laws.{and_left, and_right}
 use Rattle.beats.specs.declared.Beat.{Beat}
 use Rattle.beats.specs.Beats.{is_beat}
-use Rattle.meter.specs.declared.Pickup.{Pickup}
-use Rattle.meter.specs.declared.Pickup.TheVariants.{Absent, Present}
 use Rattle.meter.specs.Meters.{sound_pickup}
 use Rattle.tempo.specs.Answers.{all_beats}
 use Rattle.score.specs.declared.Score.{Score}
@@ -25,18 +24,11 @@ use Rattle.items.specs.declared.Item.{Item}
 use Rattle.items.specs.declared.Item.TheVariants as I
 use Rattle.items.specs.Items.{item_of}
 use Rattle.items.proofs.Laws.{Told, Fine, item_fine}
-use Rattle.form.specs.declared.draft.Said.{Said}
-use Rattle.form.specs.declared.draft.Said.TheVariants.{Not, Number}
+use Rattle.form.specs.declared.WrongLine.{WrongLine}
 use Rattle.form.specs.declared.draft.Draft.{Draft}
-use Rattle.form.specs.declared.draft.Step.{Step}
-use Rattle.form.specs.declared.draft.Step.TheVariants as S
-use Rattle.form.specs.declared.finish.Finish.{Finish}
-use Rattle.form.specs.declared.finish.Finish.TheVariants as F
-use Rattle.form.specs.declared.FormAnswer.{FormAnswer}
-use Rattle.form.specs.declared.FormAnswer.TheVariants.{File, Wrong}
-use Rattle.form.specs.Drafts.{empty, unless_said, unless_pickup, with_rate, with_beats, with_tempo, with_pickup, more_meters, more_tempos, with_meter, with_point, needed, finished}
+use Rattle.form.specs.Drafts.{empty, unless_said, with_rate, with_beats, with_tempo, with_pickup, more_meters, more_tempos, with_meter, with_point, needed, finished}
 use Rattle.form.specs.Forms.{Sofar, Taken, going, halted, keeping, metered, pointed, taken_by, taken}
-use Rattle.form.specs.Forms.{Outcome, done, wrong, onward, walk, start, outcome, last_line, written_by, file_answer, end_answer, form_answer}
+use Rattle.form.specs.Forms.{wrong_at, Outcome, done, wrong, onward, walk, start, outcome, last_line, written_by, file_answer, end_answer, form_answer}
 use Rattle.form.specs.Promise.{NeverUnwritten}
 
 -- ---- beats of points
@@ -75,9 +67,9 @@ pub record Sound (sofar : Sofar) : Type 0 where
   pub even : length sofar.nums ≡ length sofar.dens
   pub lowest : all_beats sofar.nums sofar.dens ≡ true
 
-abbrev SoundStep : Step → Type 0
-SoundStep (S.Next draft) = SoundDraft draft
-SoundStep (S.Wrong reason) = Told reason
+abbrev SoundStep : Result Draft Reason → Type 0
+SoundStep (Ok draft) = SoundDraft draft
+SoundStep (Err reason) = Told reason
 
 abbrev SoundTaken : Taken → Type 0
 SoundTaken (going sofar) = Sound sofar
@@ -88,17 +80,12 @@ SoundOutcome (done behind sofar) = Sound sofar
 SoundOutcome (wrong line reason) = Told reason
 
 twice_told : Told Twice
-twice_told e = let z : ◌≡◌ {A = ℕ} 0 1 = cc in omega arith
+twice_told e = cc
 
-said_sound : (next : Draft) (said : Said) → SoundDraft next → SoundStep (unless_said said next)
+said_sound : {A : Type 0} (next : Draft) (said : Option A) → SoundDraft next → SoundStep (unless_said said next)
 unfolding unless_said
-said_sound next Not h = h
-said_sound next (Number n) h = twice_told
-
-pickup_sound : (next : Draft) (pickup : Pickup) → SoundDraft next → SoundStep (unless_pickup pickup next)
-unfolding unless_pickup
-pickup_sound next Absent h = h
-pickup_sound next (Present beat) h = twice_told
+said_sound next None h = h
+said_sound next (Some a) h = twice_told
 
 module _ (draft : Draft) (h : SoundDraft draft) where
   meter_sound : SoundStep (with_meter draft)
@@ -106,9 +93,9 @@ module _ (draft : Draft) (h : SoundDraft draft) where
   meter_sound = go (ltb draft.meters 256) refl
     where
       full : Told ManyMeters
-      full e = let z : ◌≡◌ {A = ℕ} 0 1 = cc in omega arith
+      full e = cc
 
-      go : (b : Bool) → ltb draft.meters 256 ≡ b → SoundStep (cond b (S.Next (more_meters draft)) (S.Wrong ManyMeters))
+      go : (b : Bool) → ltb draft.meters 256 ≡ b → SoundStep (cond b (Ok (more_meters draft)) (Err ManyMeters))
       go true e = let l = ltb-true draft.meters 256 e in record { pickup_lowest = h.pickup_lowest; few_meters = omega arith; few_tempos = h.few_tempos }
       go false e = full
 
@@ -117,50 +104,50 @@ module _ (draft : Draft) (h : SoundDraft draft) where
   tempo_sound = go (ltb draft.tempos 1024) refl
     where
       full : Told ManyTempos
-      full e = let z : ◌≡◌ {A = ℕ} 0 1 = cc in omega arith
+      full e = cc
 
-      go : (b : Bool) → ltb draft.tempos 1024 ≡ b → SoundStep (cond b (S.Next (more_tempos draft)) (S.Wrong ManyTempos))
+      go : (b : Bool) → ltb draft.tempos 1024 ≡ b → SoundStep (cond b (Ok (more_tempos draft)) (Err ManyTempos))
       go true e = let l = ltb-true draft.tempos 1024 e in record { pickup_lowest = h.pickup_lowest; few_meters = h.few_meters; few_tempos = omega arith }
       go false e = full
 
 -- ---- a line more
 
 module _ (sofar : Sofar) (h : Sound sofar) where
-  keeps : (step : Step) → SoundStep step → SoundTaken (keeping sofar step)
+  keeps : (step : Result Draft Reason) → SoundStep step → SoundTaken (keeping sofar step)
   unfolding keeping
-  keeps (S.Next draft) d = record { sound_draft = d; even = h.even; lowest = h.lowest }
-  keeps (S.Wrong reason) d = d
+  keeps (Ok draft) d = record { sound_draft = d; even = h.even; lowest = h.lowest }
+  keeps (Err reason) d = d
 
-  meters : (bar num den : ℕ) (step : Step) → SoundStep step → SoundTaken (metered sofar bar num den step)
+  meters : (bar num den : ℕ) (step : Result Draft Reason) → SoundStep step → SoundTaken (metered sofar bar num den step)
   unfolding metered
-  meters bar num den (S.Next draft) d = record { sound_draft = d; even = h.even; lowest = h.lowest }
-  meters bar num den (S.Wrong reason) d = d
+  meters bar num den (Ok draft) d = record { sound_draft = d; even = h.even; lowest = h.lowest }
+  meters bar num den (Err reason) d = d
 
-  points : (beat : Beat) (bpm : ℕ) → is_beat beat ≡ true → (step : Step) → SoundStep step → SoundTaken (pointed sofar beat bpm step)
+  points : (beat : Beat) (bpm : ℕ) → is_beat beat ≡ true → (step : Result Draft Reason) → SoundStep step → SoundTaken (pointed sofar beat bpm step)
   unfolding pointed
-  points beat bpm e (S.Next draft) d = record {
+  points beat bpm e (Ok draft) d = record {
     sound_draft = d;
     even = simp length-append (ap (λ (k : ℕ). k + 1) h.even);
     lowest = more_beats sofar.nums sofar.dens beat.num beat.den h.even h.lowest e;
   }
-  points beat bpm e (S.Wrong reason) d = d
+  points beat bpm e (Err reason) d = d
 
   numbers : (next : Draft) → next.pickup ≡ sofar.draft.pickup → next.meters ≡ sofar.draft.meters → next.tempos ≡ sofar.draft.tempos → SoundDraft next
   numbers next p m t =
       let d = h.sound_draft in
       record { pickup_lowest = ap sound_pickup p ∙ d.pickup_lowest; few_meters = omega (arith, d.few_meters); few_tempos = omega (arith, d.few_tempos) }
 
-  item_sound : (item : Item) → Fine item → SoundTaken (taken_by sofar item)
+  item_sound : (item : Result (Option Item) Reason) → Fine item → SoundTaken (taken_by sofar item)
   unfolding taken_by with_rate with_beats with_tempo with_pickup
-  item_sound I.Nothing f = h
-  item_sound (I.Rate n) f = keeps _ (said_sound _ sofar.draft.rate (numbers _ refl refl refl))
-  item_sound (I.Beats n) f = keeps _ (said_sound _ sofar.draft.beats (numbers _ refl refl refl))
-  item_sound (I.Tempo n) f = keeps _ (said_sound _ sofar.draft.tempo (numbers _ refl refl refl))
-  item_sound (I.Pickup beat) f =
-      keeps _ (pickup_sound _ sofar.draft.pickup (record { pickup_lowest = f; few_meters = h.sound_draft.few_meters; few_tempos = h.sound_draft.few_tempos }))
-  item_sound (I.MeterPoint bar num den) f = meters bar num den _ (meter_sound sofar.draft h.sound_draft)
-  item_sound (I.TempoPoint beat bpm) f = points beat bpm f _ (tempo_sound sofar.draft h.sound_draft)
-  item_sound (I.Wrong reason) f = f
+  item_sound (Ok None) f = h
+  item_sound (Ok (Some (I.Rate n))) f = keeps _ (said_sound _ sofar.draft.rate (numbers _ refl refl refl))
+  item_sound (Ok (Some (I.Beats n))) f = keeps _ (said_sound _ sofar.draft.beats (numbers _ refl refl refl))
+  item_sound (Ok (Some (I.Tempo n))) f = keeps _ (said_sound _ sofar.draft.tempo (numbers _ refl refl refl))
+  item_sound (Ok (Some (I.Pickup beat))) f =
+      keeps _ (said_sound _ sofar.draft.pickup (record { pickup_lowest = f; few_meters = h.sound_draft.few_meters; few_tempos = h.sound_draft.few_tempos }))
+  item_sound (Ok (Some (I.MeterPoint bar num den))) f = meters bar num den _ (meter_sound sofar.draft h.sound_draft)
+  item_sound (Ok (Some (I.TempoPoint beat bpm))) f = points beat bpm f _ (tempo_sound sofar.draft h.sound_draft)
+  item_sound (Err reason) f = f
 
   line_sound : (line : List ℕ) → SoundTaken (taken sofar line)
   unfolding taken
@@ -177,13 +164,13 @@ walk_sound (line ∷ rest) behind sofar h = go (λ s q. walk_sound rest (behind 
 
 -- ---- the file
 
-abbrev TellsNot : FormAnswer → Type 0
-TellsNot (File size) = 0 ≤ 0
-TellsNot (Wrong line reason) = Told reason
+abbrev TellsNot : Result ℕ WrongLine → Type 0
+TellsNot (Ok size) = 0 ≤ 0
+TellsNot (Err told) = Told told.reason
 
 module _ (line : ℕ) (sofar : Sofar) (h : Sound sofar) where
   whole : (score : Score) → score.pickup ≡ sofar.draft.pickup → score.meters ≡ sofar.draft.meters → score.tempos ≡ sofar.draft.tempos
-      → TellsNot (file_answer line sofar (F.Whole score))
+      → TellsNot (file_answer line sofar (Ok score))
   unfolding file_answer written_by write_answer
   whole score p m t = go _ (few_points score) (in_lowest_terms score sofar.meter sofar.nums sofar.dens sofar.bits) few_points_lem lowest_terms
     where
@@ -195,14 +182,14 @@ module _ (line : ℕ) (sofar : Sofar) (h : Sound sofar) where
 
       go : (size : ℕ) (x y : Bool) → x ≡ true → y ≡ true → TellsNot (written_by line (cond x (cond y (accepted size) (refused 1 [])) (refused 4 [])))
       go size true true e f = omega arith
-      go size true false e f = let z : ◌≡◌ {A = ℕ} 0 1 = cc in absurd (omega arith)
-      go size false y e f = let z : ◌≡◌ {A = ℕ} 0 1 = cc in absurd (omega arith)
+      go size true false e f = cc
+      go size false y e f = cc
 
-  needs : (said : Said) (reason : Reason) (go : ℕ → Finish) → Told reason
+  needs : (said : Option ℕ) (reason : Reason) (go : ℕ → Result Score Reason) → Told reason
       → ((n : ℕ) → TellsNot (file_answer line sofar (go n))) → TellsNot (file_answer line sofar (needed said reason go))
   unfolding needed file_answer
-  needs Not reason go t f = t
-  needs (Number n) reason go t f = f n
+  needs None reason go t f = t
+  needs (Some n) reason go t f = f n
 
   file_sound : TellsNot (file_answer line sofar (finished sofar.draft))
   unfolding finished
@@ -211,13 +198,13 @@ module _ (line : ℕ) (sofar : Sofar) (h : Sound sofar) where
       (λ rate. needs sofar.draft.beats NoBeats _ beats_told (λ beats. needs sofar.draft.tempo NoTempo _ tempo_told (λ bpm. whole _ refl refl refl)))
     where
       rate_told : Told NoRate
-      rate_told e = let z : ◌≡◌ {A = ℕ} 0 1 = cc in omega arith
+      rate_told e = cc
 
       beats_told : Told NoBeats
-      beats_told e = let z : ◌≡◌ {A = ℕ} 0 1 = cc in omega arith
+      beats_told e = cc
 
       tempo_told : Told NoTempo
-      tempo_told e = let z : ◌≡◌ {A = ℕ} 0 1 = cc in omega arith
+      tempo_told e = cc
 
 -- no text is refused by the writer
 pub never_unwritten : NeverUnwritten
@@ -231,6 +218,9 @@ never_unwritten text line e = told (form_answer text) (ends (outcome text) (walk
     ends (done behind sofar) h = file_sound (last_line behind) sofar h
     ends (wrong line reason) h = h
 
-    told : (answer : FormAnswer) → TellsNot answer → answer ≡ Wrong line Unwritten → ⊥
-    told (File size) h f = let z : ◌≡◌ {A = ℕ} 0 1 = cc in omega arith
-    told (Wrong l reason) h f = h cc
+    unwritten : {why : WrongLine} → ◌≡◌ {A = Result ℕ WrongLine} (Err why) (wrong_at line Unwritten) → why.reason ≡ Unwritten
+    unwritten {why} f = let q : why ≡ record { line = line; reason = Unwritten } = cc in ap (λ (w : WrongLine). w.reason) q
+
+    told : (answer : Result ℕ WrongLine) → TellsNot answer → answer ≡ wrong_at line Unwritten → ⊥
+    told (Ok size) h f = cc
+    told (Err why) h f = h (unwritten f)

@@ -4,31 +4,17 @@ ghost use Rattle.form.specs.Drafts.{empty, with_rate, with_beats, with_tempo, wi
 
 use beats::Beat;
 use items::Reason;
-use meter::Pickup;
-
-// A number, where it was said.
-#[derive(Clone, Copy)]
-pub enum Said {
-    Not,
-    Number(u32),
-}
 
 #[derive(Clone, Copy)]
 pub struct Draft {
-    pub rate: Said,
-    pub beats: Said,
+    pub rate: Option<u32>,
+    pub beats: Option<u32>,
     // bits
-    pub tempo: Said,
-    pub pickup: Pickup,
+    pub tempo: Option<u32>,
+    pub pickup: Option<Beat>,
     // how many points
     pub meters: usize,
     pub tempos: usize,
-}
-
-#[derive(Clone, Copy)]
-pub enum Step {
-    Next(Draft),
-    Wrong(Reason),
 }
 
 // Nothing said.
@@ -36,111 +22,74 @@ pub fn empty() -> Draft
     ensures { result ≡ empty }
 {
     Draft {
-        rate: Said::Not,
-        beats: Said::Not,
-        tempo: Said::Not,
-        pickup: Pickup::Absent,
+        rate: None,
+        beats: None,
+        tempo: None,
+        pickup: None,
         meters: 0,
         tempos: 0,
     }
 }
 
-pub fn with_rate(draft: Draft, n: u32) -> Step
+// Stays: this and the three behind it differ in the field, which no parameter names, and are one
+// test and one field each.
+pub fn with_rate(draft: Draft, n: u32) -> Result<Draft, Reason>
     ensures { result ≡ with_rate draft n }
 {
-    let rate = draft.rate;
-    let beats = draft.beats;
-    let tempo = draft.tempo;
-    let pickup = draft.pickup;
-    match rate {
-        Said::Number(_) => Step::Wrong(Reason::Twice),
-        Said::Not => Step::Next(Draft {
-            rate: Said::Number(n),
-            beats,
-            tempo,
-            pickup,
-            meters: draft.meters,
-            tempos: draft.tempos,
-        }),
+    if draft.rate.is_some() {
+        return Err(Reason::Twice);
     }
+    Ok(Draft {
+        rate: Some(n),
+        ..draft
+    })
 }
 
-pub fn with_beats(draft: Draft, n: u32) -> Step
+pub fn with_beats(draft: Draft, n: u32) -> Result<Draft, Reason>
     ensures { result ≡ with_beats draft n }
 {
-    let rate = draft.rate;
-    let beats = draft.beats;
-    let tempo = draft.tempo;
-    let pickup = draft.pickup;
-    match beats {
-        Said::Number(_) => Step::Wrong(Reason::Twice),
-        Said::Not => Step::Next(Draft {
-            rate,
-            beats: Said::Number(n),
-            tempo,
-            pickup,
-            meters: draft.meters,
-            tempos: draft.tempos,
-        }),
+    if draft.beats.is_some() {
+        return Err(Reason::Twice);
     }
+    Ok(Draft {
+        beats: Some(n),
+        ..draft
+    })
 }
 
-pub fn with_tempo(draft: Draft, bits: u32) -> Step
+pub fn with_tempo(draft: Draft, bits: u32) -> Result<Draft, Reason>
     ensures { result ≡ with_tempo draft bits }
 {
-    let rate = draft.rate;
-    let beats = draft.beats;
-    let tempo = draft.tempo;
-    let pickup = draft.pickup;
-    match tempo {
-        Said::Number(_) => Step::Wrong(Reason::Twice),
-        Said::Not => Step::Next(Draft {
-            rate,
-            beats,
-            tempo: Said::Number(bits),
-            pickup,
-            meters: draft.meters,
-            tempos: draft.tempos,
-        }),
+    if draft.tempo.is_some() {
+        return Err(Reason::Twice);
     }
+    Ok(Draft {
+        tempo: Some(bits),
+        ..draft
+    })
 }
 
-pub fn with_pickup(draft: Draft, beat: Beat) -> Step
+pub fn with_pickup(draft: Draft, beat: Beat) -> Result<Draft, Reason>
     ensures { result ≡ with_pickup draft beat }
 {
-    let rate = draft.rate;
-    let beats = draft.beats;
-    let tempo = draft.tempo;
-    let pickup = draft.pickup;
-    match pickup {
-        Pickup::Present(_) => Step::Wrong(Reason::Twice),
-        Pickup::Absent => Step::Next(Draft {
-            rate,
-            beats,
-            tempo,
-            pickup: Pickup::Present(beat),
-            meters: draft.meters,
-            tempos: draft.tempos,
-        }),
+    if draft.pickup.is_some() {
+        return Err(Reason::Twice);
     }
+    Ok(Draft {
+        pickup: Some(beat),
+        ..draft
+    })
 }
 
 // One meter point more.
+// Stays: this and the next differ in the field, which no parameter names.
 pub fn more_meters(draft: Draft) -> Draft
     requires { draft.meters < 256 }
     ensures { result ≡ more_meters draft }
 {
-    let rate = draft.rate;
-    let beats = draft.beats;
-    let tempo = draft.tempo;
-    let pickup = draft.pickup;
     Draft {
-        rate,
-        beats,
-        tempo,
-        pickup,
         meters: draft.meters + 1,
-        tempos: draft.tempos,
+        ..draft
     }
 }
 
@@ -149,16 +98,8 @@ pub fn more_tempos(draft: Draft) -> Draft
     requires { draft.tempos < 1024 }
     ensures { result ≡ more_tempos draft }
 {
-    let rate = draft.rate;
-    let beats = draft.beats;
-    let tempo = draft.tempo;
-    let pickup = draft.pickup;
     Draft {
-        rate,
-        beats,
-        tempo,
-        pickup,
-        meters: draft.meters,
         tempos: draft.tempos + 1,
+        ..draft
     }
 }

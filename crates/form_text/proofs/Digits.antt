@@ -1,23 +1,29 @@
 -- Which decimal reads back, one number of places after the other; and digits, from the last on.
 use mathlib.Core.Path.{◌≡◌, refl, sym, ap, ◌∙◌}
 use mathlib.Core.Bool.{Bool, true, false, cond}
-use mathlib.Core.List.{List, [], ◌∷◌, ◌++◌, append-nil, append_assoc}
+use mathlib.Core.List.{[], ◌∷◌, ◌++◌, append-nil, append_assoc}
 use Prim.Native.Nat.{ℕ, zero, suc, ◌+◌, ◌-◌, ◌/◌, ◌%◌, ◌^◌, ◌≤◌, ◌<◌}
+use native.Mathlib.Nat.{pow-suc}
 use native.Mathlib.Omega.{arith}
+use Rattle.std.proofs.Common.{Option, Some, None, MatchOption}
+use Rattle.std.specs.Option.{unwrap_or}
 use borrow.Author.Tests.{lt-ltb, le-ltb, ltb-true, eq-eqb, ne_eqb, eqb-true}
 use lib.Dec.{ltb, eqb}
 use lib.IntN.{pos}
 use lib.Ieee.{Float, binary32, binary64, of_bits, mul, of_int, to_unsigned}
 use lib.ListN.{length, length-append}
-use Rattle.numbers.proofs.Laws.{and_left, and_right}
+use Rattle.numbers.proofs.Laws.{and_left, and_right, by_order}
 use Rattle.rounding.specs.Floats.{round_away}
-use Rattle.text.specs.Texts.{Puts, decimal}
-use Rattle.text.proofs.Laws.{nothing, retext}
+use Rattle.text.specs.declared.page.Page.{Page}
+use Rattle.text.specs.Texts.{decimal}
+use Rattle.text.specs.Pages.{Appends}
+use Rattle.text.proofs.Laws.{append_nothing}
 use Rattle.spelling.specs.Words.{quotient}
 use Rattle.form_text.specs.TempoTexts.{digits_for, reads_back, places_from, digit_byte, last_digits, point_text, bits_text, tempo_text}
 
-pub power : (n k : ℕ) → n ≡ k → 10 ^ k ≡ 10 ^ n
-power n k e = ap (λ (j : ℕ). 10 ^ j) (sym e)
+pub some_power : (k : ℕ) → 0 < 10 ^ k
+some_power zero = omega arith
+some_power (suc k) = rw (pow-suc 10 k) (omega (arith, some_power k))
 
 -- ---- which decimal
 
@@ -48,19 +54,33 @@ module _ (bits places : ℕ) (e : reads_back bits places ≡ true) where
       eqb-true (quotient (digits_for bits places) places) bits (and_right (ltb (digits_for bits places) 16777216) (eqb (quotient (digits_for bits places) places) bits) e)
 
 module _ (bits : ℕ) where
-  pub place_found : (p left : ℕ) → 0 < left → reads_back bits p ≡ true → places_from bits p left ≡ p
+  place_found : (p left : ℕ) → reads_back bits p ≡ true → places_from bits p (suc left) ≡ p
   unfolding places_from
-  place_found p zero h e = let z : ⊥ = omega arith in absurd z
-  place_found p (suc left) h e = simp e
+  place_found p left e = simp e
 
-  pub place_next : (p left : ℕ) → 0 < left → reads_back bits p ≡ false → places_from bits p left ≡ places_from bits (p + 1) (left - 1)
+  place_next : (p left : ℕ) → reads_back bits p ≡ false → places_from bits p (suc left) ≡ places_from bits (p + 1) left
   unfolding places_from
-  place_next p zero h e = let z : ⊥ = omega arith in absurd z
-  place_next p (suc left) h e = let j : left ≡ suc left - 1 = omega arith in simp e (ap (places_from bits (p + 1)) j)
+  place_next p left e = simp e
 
-  pub place_none : (p left : ℕ) → left ≡ 0 → places_from bits p left ≡ p
+  -- the first of some places that reads back, and where none does
+  first_at : (p left i : ℕ) → p ≤ i → i < p + left → reads_back bits i ≡ true → ((k : ℕ) → p ≤ k → k < i → reads_back bits k ≡ false) → places_from bits p left ≡ i
+  first_at p zero i h l e none = let z : ⊥ = omega arith in absurd z
+  first_at p (suc left) i h l e none =
+      by_order p i
+      (λ m. place_next p left (none p (omega arith) m) ∙ first_at (p + 1) left i (omega arith) (omega arith) e (λ k a b. none k (omega arith) b))
+      (λ m. let same : p ≡ i = omega arith in place_found p left (rw same e) ∙ same)
+
+  none_at : (p left : ℕ) → ((k : ℕ) → p ≤ k → k < p + left → reads_back bits k ≡ false) → places_from bits p left ≡ p + left
   unfolding places_from
-  place_none p left e = ap (places_from bits p) e
+  none_at p zero none = omega arith
+  none_at p (suc left) none = place_next p left (none p (omega arith) (omega arith)) ∙ none_at (p + 1) left (λ k a b. none k (omega arith) (omega arith)) ∙ omega arith
+
+  -- what a search of the five places finds
+  pub found : (r : Option ℕ)
+      → MatchOption r ((k : ℕ) → 0 ≤ k → k < 5 → reads_back bits k ≡ false) (λ i. (0 ≤ i) × (i < 5) × (reads_back bits i ≡ true) × ((k : ℕ) → 0 ≤ k → k < i → reads_back bits k ≡ false))
+      → unwrap_or r 5 ≡ places_from bits 0 5
+  found None none = sym (none_at 0 5 (λ k a b. none k a (omega arith)))
+  found (Some i) f = sym (first_at 0 5 i f.0 (omega arith) f.2 f.3)
 
   -- a place that is not behind the last reads back
   pub back_at : (p left : ℕ) → places_from bits p left < p + left → reads_back bits (places_from bits p left) ≡ true
@@ -81,9 +101,9 @@ module _ (bits : ℕ) where
 -- ---- digits
 
 module _ (base n : ℕ) where
-  pub no_digits : (count : ℕ) (out : List ℕ) (at : ℕ) → count ≡ 0 → Puts at (last_digits base count n) out at out
+  pub no_digits : (page : Page) → Appends (last_digits base 0 n) page page
   unfolding last_digits
-  no_digits count out at e = retext (ap (λ (k : ℕ). last_digits base k n) (sym e)) (nothing out at)
+  no_digits = append_nothing
 
   pub more_digits : (count : ℕ) → 0 < count → last_digits base (count - 1) (n / base) ++ (digit_byte (n % base) ∷ []) ≡ last_digits base count n
   unfolding last_digits

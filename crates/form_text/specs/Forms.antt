@@ -1,8 +1,6 @@
 -- The text form of a score file, one thing to a line, words split by one blank.
-use Rattle.std.specs.Prelude.{cond, List, [], ◌∷◌, ◌++◌, ℕ, zero, suc, ◌+◌, ◌*◌, ℤ, pos, take, get_or}
+use Rattle.std.specs.Prelude.{cond, Option, Some, None, List, [], ◌∷◌, ◌++◌, ℕ, zero, suc, ◌+◌, ◌*◌, ℤ, pos, take, get_or}
 use Rattle.beats.specs.declared.Beat.{Beat}
-use Rattle.meter.specs.declared.Pickup.{Pickup}
-use Rattle.meter.specs.declared.Pickup.TheVariants.{Absent, Present}
 use Rattle.score.specs.declared.Score.{Score}
 use Rattle.score.specs.Format.{is_score, score_of, meter_words, tempo_nums, tempo_dens, tempo_bits}
 use Rattle.score.specs.Answers.{refusal_text}
@@ -34,9 +32,9 @@ unfoldable pub number_line : List ℕ → ℕ → List ℕ
 number_line word number = word ++ (decimal number ++ (10 ∷ []))
 
 -- `pickup 1`, and no line where there is none
-unfoldable pub pickup_line : Pickup → List ℕ
-pickup_line Absent = []
-pickup_line (Present beat) = pickup_word ++ (beat_text beat ++ (10 ∷ []))
+unfoldable pub pickup_line : Option Beat → List ℕ
+pickup_line None = []
+pickup_line (Some beat) = pickup_word ++ (beat_text beat ++ (10 ∷ []))
 
 -- `meter 8 3/4`
 unfoldable pub meter_line : ℕ → ℕ → ℕ → List ℕ

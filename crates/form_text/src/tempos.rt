@@ -1,25 +1,17 @@
 // A tempo as text: which decimal reads back as its bits, and the digits.
-ghost use Rattle.std.specs.Prelude.{◌≡◌, ◌+◌, ◌≤◌, ◌<◌, ◌^◌, length};
-ghost use Rattle.text.specs.Texts.{Puts};
+ghost use Rattle.std.specs.Prelude.{◌≡◌, ◌+◌, ◌≤◌, ◌<◌, ◌^◌, length, IfSome};
+ghost use Rattle.std.specs.Option.{unwrap_or};
+ghost use Rattle.text.specs.Pages.{Appends};
 ghost use Rattle.form_text.specs.TempoTexts.{digits_for, reads_back, places_for, digit_byte, last_digits, point_text, tempo_text};
 
-use text::put;
+use text::Page;
 
 // 10 to a power.
 fn ten(places: u32) -> u32
     requires { places ≤ 4 }
     ensures { (result ≡ 10 ^ places) × (0 < result) }
 {
-    if places == 0 {
-        return 1;
-    }
-    if places == 1 {
-        return 10;
-    }
-    if places == 2 {
-        return 100;
-    }
-    if places == 3 { 1000 } else { 10000 }
+    10u32.pow(places)
 }
 
 // The digits to try with so many places.
@@ -44,18 +36,12 @@ fn reads_back(bits: u32, places: u32) -> bool
     spelling::over_ten(digits as u32, places as usize) == bits
 }
 
-// The first number of places that reads back, and 5 where none does.
-fn places_for(bits: u32) -> u32
-    ensures { (result ≡ places_for bits) × (result ≤ 5) }
+// The first number of places that reads back.
+fn places_for(bits: u32) -> Option<u32>
+    ensures value { unwrap_or result 5 ≡ places_for bits }
+    ensures few { IfSome result (λ places. places ≤ 4) }
 {
-    let mut places: u32 = 0;
-    while places < 5 {
-        if reads_back(bits, places) {
-            return places;
-        }
-        places += 1;
-    }
-    places
+    (0..5).find(|places| reads_back(bits, *places))
 }
 
 // A digit to a base up to 16.
@@ -64,51 +50,47 @@ fn digit_byte(digit: u32) -> u8
     ensures { result ≡ digit_byte digit }
 {
     if digit < 10 {
-        (48 + digit) as u8
+        b'0' + digit as u8
     } else {
-        (87 + digit) as u8
+        b'a' + (digit - 10) as u8
     }
 }
 
 // The last `count` digits of n.
-fn last_digits(out: &mut [u8], place: usize, base: u32, count: usize, n: u32) -> usize
-    requires { (place + count ≤ length out.old) × (0 < base) × (base ≤ 16) }
-    ensures { Puts place (last_digits base count n) out.old result out.new }
+fn last_digits(page: &mut Page, base: u32, count: u32, n: u32)
+    requires { (page.old.place + count ≤ length page.old.out.now) × (0 < base) × (base ≤ 16) }
+    ensures { Appends (last_digits base count n) page.old page.new }
 {
-    if count == 0 {
-        return place;
+    if count > 0 {
+        last_digits(page, base, count - 1, n / base);
+        page.byte(digit_byte(n % base));
     }
-    let last = last_digits(out, place, base, count - 1, n / base);
-    put::byte(out, last, digit_byte(n % base))
 }
 
 // Digits with so many of them behind the point.
-fn point(out: &mut [u8], place: usize, digits: u32, places: u32) -> usize
-    requires { (place + 15 ≤ length out.old) × (places ≤ 4) }
-    ensures puts { Puts place (point_text digits places) out.old result out.new }
-    ensures upper_bound { result ≤ place + 15 }
+fn point(page: &mut Page, digits: u32, places: u32)
+    requires { (page.old.place + 15 ≤ length page.old.out.now) × (places ≤ 4) }
+    ensures puts { Appends (point_text digits places) page.old page.new }
+    ensures upper_bound { page.new.place ≤ page.old.place + 15 }
 {
-    let scale = ten(places);
-    let whole = put::decimal(out, place, (digits / scale) as u64);
-    if places == 0 {
-        return whole;
+    page.decimal((digits / ten(places)) as u64);
+    if places > 0 {
+        page.byte(b'.');
+        last_digits(page, 10, places, digits);
     }
-    let behind = put::byte(out, whole, b'.');
-    last_digits(out, behind, 10, places as usize, digits)
 }
 
 // A tempo, which has at most 15 bytes.
-pub fn tempo(out: &mut [u8], place: usize, bits: u32) -> usize
-    requires { place + 15 ≤ length out.old }
-    ensures puts { Puts place (tempo_text bits) out.old result out.new }
-    ensures upper_bound { result ≤ place + 15 }
+pub fn tempo(page: &mut Page, bits: u32)
+    requires { page.old.place + 15 ≤ length page.old.out.now }
+    ensures puts { Appends (tempo_text bits) page.old page.new }
+    ensures upper_bound { page.new.place ≤ page.old.place + 15 }
 {
-    let places = places_for(bits);
-    if places < 5 {
-        let digits = digits_for(bits, places);
-        point(out, place, digits as u32, places)
-    } else {
-        let behind = put::bytes(out, place, b"0x");
-        last_digits(out, behind, 16, 8, bits)
+    match places_for(bits) {
+        Some(places) => point(page, digits_for(bits, places) as u32, places),
+        None => {
+            page.bytes(b"0x");
+            last_digits(page, 16, 8, bits);
+        }
     }
 }

@@ -6,14 +6,14 @@ ghost use Rattle.std.specs.Prelude.{◌≡◌};
 ghost use Rattle.transport.specs.Advances.{advance_answer};
 ghost use Rattle.transport.specs.Readings.{read_advanced};
 
-use transport::{Advanced, Transport};
+use transport::{Handed, Moves, Transport};
 
-pub fn in_place(mut t: Transport, frames: u64) -> Advanced
+pub fn in_place(mut t: Transport, frames: u64) -> Handed<Moves>
     ensures { read_advanced result ≡ advance_answer t frames }
 {
-    let report = transport::advance_in_place(&mut t, frames);
-    Advanced {
+    let answer = transport::advance_in_place(&mut t, frames);
+    Handed {
         transport: t,
-        report,
+        answer,
     }
 }

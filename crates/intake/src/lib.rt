@@ -1,7 +1,7 @@
 // What a program is given: bytes from a reader, and arguments.
 #![tactic(auto)]
 
-ghost use Rattle.std.specs.Prelude.{◌<◌, ◌≤◌, length, take, IfOk};
+ghost use Rattle.std.specs.Prelude.{◌<◌, ◌≤◌, length, take, IfOk, IfSome};
 ghost use Rattle.std.specs.Io.KnownBytes.{Consumes, IsAtEnd};
 
 use std::env::{Env, FillError};
@@ -16,6 +16,7 @@ pub fn read_full<R: Read>(reader: &mut R, buf: &mut [u8]) -> io::Result<usize>
     ensures end { IfOk result (λ n. n < length buf.new → IsAtEnd (R.remaining reader.new)) }
 {
     let mut done = 0;
+    // Stays: this counts no turns; each goes on by as many bytes as a read gave, 0 at the end.
     while done < buf.len() {
         let n = reader.read(&mut buf[done..])?;
         if n == 0 {
@@ -32,10 +33,10 @@ pub fn has_argument(rt: &impl Env, i: usize) -> bool {
     !matches!(rt.arg(i, &mut buf), Err(FillError::NotPresent))
 }
 
-// Puts argument i at the start of buf, and returns its length: 0 where it is missing, or longer than
-// buf.
-pub fn argument(rt: &impl Env, i: usize, buf: &mut [u8]) -> usize
-    ensures { result ≤ length buf.new }
+// Argument i, put at the start of buf: none where it is missing, or longer than buf.
+pub fn argument<'a>(rt: &impl Env, i: usize, buf: &'a mut [u8]) -> Option<&'a [u8]>
+    ensures { IfSome result (λ word. length word.now ≤ length buf.old) }
 {
-    rt.arg(i, buf).unwrap_or(0)
+    let n = rt.arg(i, &mut *buf).ok()?;
+    Some(&buf[..n])
 }

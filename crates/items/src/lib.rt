@@ -6,13 +6,15 @@ ghost use Rattle.splits.specs.Splits.{words, body};
 ghost use Rattle.items.specs.Items.{item_of};
 
 use beats::Beat;
+use spelling::BeatError;
 use splits::scan;
+use std::fmt;
 
 mod keys;
 mod values;
 
 // What can be wrong with a text.
-#[derive(Clone, Copy)]
+#[derive(Clone, Copy, Debug, PartialEq, Eq)]
 pub enum Reason {
     // the first word of the line is none of the five keys
     Unknown,
@@ -41,9 +43,44 @@ pub enum Reason {
     Unwritten,
 }
 
+impl From<BeatError> for Reason {
+    ghost use Rattle.std.specs.Prelude.{◌≡◌};
+    ghost use Rattle.items.specs.Items.{reason_of};
+
+    ghost from_gives = { λ why reason. reason ≡ reason_of why };
+
+    fn from(why: BeatError) -> Reason {
+        match why {
+            BeatError::NotNumber => Reason::NotBeat,
+            BeatError::NotBeat => Reason::NotLowest,
+        }
+    }
+}
+
+impl fmt::Display for Reason {
+    fn fmt<W: fmt::Write>(&self, f: &mut fmt::Formatter<W>) -> fmt::Result {
+        f.write_str(match self {
+            Reason::Unknown => "the first word is not known",
+            Reason::Words => "words are missing, or there are too many",
+            Reason::NotNumber => "not a number from 0 to 4294967295",
+            Reason::NotBeat => "not a beat: n or n/d",
+            Reason::NotLowest => "the beat is not in lowest terms, or its denominator is 0",
+            Reason::NotTempo =>
+                "not a tempo: a decimal whose digits are together below 16777216, at most ten behind the point, or 0x and eight hexadecimal digits",
+            Reason::NotMeter => "not a meter: n/d",
+            Reason::Twice => "said twice",
+            Reason::ManyMeters => "over 256 meter points",
+            Reason::ManyTempos => "over 1024 tempo points",
+            Reason::NoRate => "rate is missing",
+            Reason::NoBeats => "beats is missing",
+            Reason::NoTempo => "tempo is missing",
+            Reason::Unwritten => "the score cannot be written",
+        })
+    }
+}
+
 #[derive(Clone, Copy)]
 pub enum Item {
-    Nothing,
     Rate(u32),
     Beats(u32),
     Tempo(u32),
@@ -52,14 +89,12 @@ pub enum Item {
     MeterPoint(u32, u32, u32),
     // beat, bits of the tempo
     TempoPoint(Beat, u32),
-    Wrong(Reason),
 }
 
-// What a line says.
-pub fn of_line(line: &[u8]) -> Item
+// What a line says; a line without words says nothing.
+pub fn of_line(line: &[u8]) -> Result<Option<Item>, Reason>
     ensures { result ≡ item_of (words (body line.now)) }
 {
-    let start = 0;
     let end = scan::until(line, 0, b'#');
-    keys::of_body(&line[start..end])
+    keys::of_body(&line[..end])
 }

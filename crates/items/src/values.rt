@@ -5,45 +5,22 @@ ghost use Rattle.items.specs.Items.{number_value, beat_value, tempo_value};
 
 use crate::Reason;
 use beats::Beat;
-use spelling::{BeatWord, NumberAnswer, TempoWord};
 
-// A number, or the bits of a tempo.
-#[derive(Clone, Copy)]
-pub enum Value {
-    Number(u32),
-    Wrong(Reason),
-}
-
-#[derive(Clone, Copy)]
-pub enum BeatValue {
-    Beat(Beat),
-    Wrong(Reason),
-}
-
-pub fn number(word: &[u8]) -> Value
+pub fn number(word: &[u8]) -> Result<u32, Reason>
     ensures { result ≡ number_value (number_of word.now) }
 {
-    match spelling::number(word) {
-        NumberAnswer::Read(n) => Value::Number(n),
-        NumberAnswer::NotNumber => Value::Wrong(Reason::NotNumber),
-    }
+    spelling::number(word).ok_or(Reason::NotNumber)
 }
 
-pub fn beat(word: &[u8]) -> BeatValue
+pub fn beat(word: &[u8]) -> Result<Beat, Reason>
     ensures { result ≡ beat_value (beat_of word.now) }
 {
-    match spelling::beat(word) {
-        BeatWord::Read(beat) => BeatValue::Beat(beat),
-        BeatWord::NotNumber => BeatValue::Wrong(Reason::NotBeat),
-        BeatWord::NotBeat => BeatValue::Wrong(Reason::NotLowest),
-    }
+    Ok(spelling::beat(word)?)
 }
 
-pub fn tempo(word: &[u8]) -> Value
+// The bits of a tempo.
+pub fn tempo(word: &[u8]) -> Result<u32, Reason>
     ensures { result ≡ tempo_value (tempo_of word.now) }
 {
-    match spelling::tempo(word) {
-        TempoWord::Read(bits) => Value::Number(bits),
-        TempoWord::NotTempo => Value::Wrong(Reason::NotTempo),
-    }
+    spelling::tempo(word).ok_or(Reason::NotTempo)
 }

@@ -8,5 +8,3 @@ pub use Rattle.lines.proofs.Ranges.{fine_lines}
 pub use Rattle.lines.proofs.Ranges.{line_in, line_before, line_past, tail_splits, tail_none}
 -- where a place lies of which nothing is known
 pub use Rattle.lines.proofs.Searching.{anywhere}
--- no two cases of the answer read alike
-pub use Rattle.lines.proofs.Readings.{lines_apart}

@@ -1,13 +1,8 @@
 -- The lines of a range stand side by side: between the places of its two ends.
-use mathlib.Core.Path.{◌≡◌, refl, sym, ap, ◌∙◌}
-use mathlib.Core.Bool.{Bool, true, false, cond, and-false}
-use mathlib.Core.List.{List, [], ◌∷◌}
-use Prim.Native.Nat.{ℕ, zero, suc, ◌-◌, ◌≤◌, ◌<◌, zero-le}
-use native.Mathlib.Nat.{le_refl, le_of_suc-le-suc, not-suc-le-zero, sub-zero, le_trans}
-use native.Mathlib.Omega.{arith}
-use borrow.Author.Tests.{leb-true, lt-leb, le-leb, lt-ltb, le-ltb}
-use lib.Dec.{leb}
-use lib.ListN.{length, take, drop}
+use Rattle.std.proofs.Common.{◌≡◌, refl, sym, ap, ◌∙◌, Bool, true, false, cond, List, [], ◌∷◌, ℕ, zero, suc, ◌-◌, ◌≤◌, ◌<◌, zero-le, le_refl, le_of_suc-le-suc, not-suc-le-zero, le_trans, arith, leb-true, le-leb, lt-ltb, le-ltb, leb, length, take, drop}
+use Rattle.std.proofs.lemmas.Bool.{lt-leb}
+use mathlib.Core.Bool.{and-false}
+use native.Mathlib.Nat.{sub-zero}
 use lib.Seq.{take-nil, drop-nil}
 use Rattle.numbers.specs.Answers.{Answer, accepted, refused, given}
 use Rattle.numbers.proofs.Laws.{by_order}

@@ -1,13 +1,5 @@
 -- Where a place is known to lie: one look at a line cuts the bracket there, as lines ascend.
-use mathlib.Core.Path.{◌≡◌, refl, ap}
-use mathlib.Core.Bool.{Bool, true, false, cond}
-use mathlib.Core.List.{List}
-use Prim.Native.Nat.{ℕ, ◌+◌, ◌-◌, ◌*◌, ◌≤◌, ◌<◌, zero-le}
-use native.Mathlib.Nat.{le_refl, le_trans, lt_of_le_of_lt}
-use native.Mathlib.Omega.{arith}
-use borrow.Author.Tests.{ltb-true, ltb-false}
-use lib.Dec.{ltb}
-use lib.ListN.{length, get_or}
+use Rattle.std.proofs.Common.{◌≡◌, refl, ap, Bool, true, false, cond, List, ℕ, ◌+◌, ◌-◌, ◌*◌, ◌≤◌, ◌<◌, zero-le, le_refl, le_trans, lt_of_le_of_lt, arith, ltb-true, ltb-false, ltb, length, get_or}
 use Rattle.lines.specs.Lines.{ascends}
 use Rattle.lines.specs.Places.{Splits, Bracket}
 use Rattle.lines.proofs.Order.{ordered}

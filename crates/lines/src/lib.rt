@@ -2,46 +2,36 @@
 // range are handed back as a part of the owner's own list.
 #![tactic(auto)]
 
-ghost use Rattle.std.specs.Prelude.{◌≡◌};
+ghost use Rattle.std.specs.Prelude.{◌≡◌, []};
+ghost use Rattle.numbers.specs.Answers.{accepted, given, then};
+ghost use Rattle.numbers.specs.Refusals.{read};
 ghost use Rattle.lines.specs.Lines.{lines_answer, range_of};
-ghost use Rattle.lines.specs.Readings.{read_lines};
+
+use numbers::Refusal;
 
 pub mod range;
 
-// What the test of a list of lines says.
-#[derive(Clone, Copy)]
-pub enum LinesReport {
-    Fine,
-    TooLong,
-    Descend,
-}
-
-// The lines of a range; none where the list is refused.
-#[derive(Clone, Copy)]
-pub struct LineRange<'a> {
-    pub report: LinesReport,
-    pub part: &'a [u64],
-}
+pub use range::Lines;
 
 // Whether 4 or 11 refuses the lines.
-pub fn check_lines(lines: &[u64]) -> LinesReport
-    ensures { read_lines result ≡ lines_answer lines.now }
+pub fn check_lines(lines: &[u64]) -> Result<(), Refusal>
+    ensures { read result ≡ lines_answer lines.now }
 {
     if lines.len() > 65536 {
-        return LinesReport::TooLong;
+        return Err(Refusal::TooLong);
     }
     if range::ascending(lines) {
-        LinesReport::Fine
+        Ok(())
     } else {
-        LinesReport::Descend
+        Err(Refusal::Descend)
     }
 }
 
-// The lines from start up to end.
-pub fn lines_between<'a>(lines: &'a [u64], start: u64, end: u64) -> LineRange<'a>
-    ensures { (read_lines result.report ≡ lines_answer lines.now) × (result.part.now ≡ range_of start end lines.now) }
+// The lines from start up to end, as a part of the list.
+pub fn lines_between<'a>(lines: &'a [u64], start: u64, end: u64) -> Result<&'a [u64], Refusal>
+    ensures test { then (read result) (λ part. accepted tt) ≡ lines_answer lines.now }
+    ensures part { given (λ part. part.now) (read result) [] ≡ range_of start end lines.now }
 {
-    let report = check_lines(lines);
-    let part = range::tested_part(lines, report, start, end);
-    LineRange { report, part }
+    let fine = Lines::tested(lines)?;
+    Ok(fine.part(start, end))
 }

@@ -2,7 +2,6 @@
 // nothing is written there, and standard error has the line and the reason.
 #![tactic(auto)]
 
-use form::FormAnswer;
 use score::LONGEST;
 use std::io;
 
@@ -12,8 +11,8 @@ const READ: usize = 131073;
 fn answer(file: &impl Print, errors: &impl Print, text: &[u8]) -> io::Result<()> {
     let mut out = [0u8; LONGEST];
     match form::read_form(text, &mut out) {
-        FormAnswer::File(size) => file.write_all(&out[..size]),
-        FormAnswer::Wrong(line, reason) => telling::wrong(errors, line, reason),
+        Ok(size) => file.write_all(&out[..size]),
+        Err(wrong) => telling::wrong(errors, wrong),
     }
 }
 

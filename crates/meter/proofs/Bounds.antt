@@ -1,4 +1,5 @@
 -- The bounds suffice: with the pickup's denominator p, each start is z / (16 p) and each bar w / 16 for small z and w, so that no operation of the walk leaves its limits.
+use Rattle.std.proofs.Common.{None, Option, Some}
 use mathlib.Core.Path.{◌≡◌, refl, sym, ap, ◌∙◌, subst}
 use mathlib.Core.Bool.{true, ◌&&◌}
 use mathlib.Core.List.{List, [], ◌∷◌}
@@ -18,8 +19,6 @@ use Rattle.beats.specs.Sums.{add_beats}
 use Rattle.beats.specs.Values.{Worth}
 use Rattle.beats.proofs.Laws.{Is, is_same, scaled, added, new_is_beat, new_value, own_value, beat_above, zero_beat_lem}
 use Rattle.meter.specs.declared.MeterPoint.{MeterPoint}
-use Rattle.meter.specs.declared.Pickup.{Pickup}
-use Rattle.meter.specs.declared.Pickup.TheVariants.{Absent, Present}
 use Rattle.meter.specs.Meters.{later, last_at, fallback, meter_at, len_of, bar_len, next_change}
 use Rattle.meter.specs.Starts.{checked_bars, checked_segments, checked_start}
 use Rattle.meter.specs.Fits.{good_den, sound_from, first_zero, sound_map, forward_pickup, numerators_up_to, small_pickup}
@@ -100,7 +99,7 @@ module _ (p W Z : ℕ) (room : Room p W Z) where
       reduced : (x y k : ℕ) → (x * 16 + y * (16 * k)) * (16 * k) ≡ (x + y * k) * (16 * k * 16)
       reduced x y k = omega arith
 
-  module _ (map : List MeterPoint) (default : ℕ) (pickup : Pickup) (good : (bar : ℕ) → good_den (meter_at map default bar).denominator ≡ true) (size : (bar : ℕ) → sixteenths (meter_at map default bar) ≤ W) where
+  module _ (map : List MeterPoint) (default : ℕ) (pickup : Option Beat) (good : (bar : ℕ) → good_den (meter_at map default bar).denominator ≡ true) (size : (bar : ℕ) → sixteenths (meter_at map default bar) ≤ W) where
     sure : (most bar end : ℕ) (at : Beat) (z : ℕ) → Is at z (16 * p) → 0 < bar → bar ≤ end → end ≤ 2147483648 → z + W * p * (end - bar) ≤ Z
         → is_accepted (checked_segments map default pickup most bar end at) ≡ true
     unfolding checked_segments
@@ -161,12 +160,12 @@ module _ (map : List MeterPoint) (default : ℕ) (sound : sound_map map ≡ true
   size : (bar : ℕ) → sixteenths (meter_at map default bar) ≤ 262144
   size bar = good_size (meter_at map default bar) (meters bar)
 
-  walks : (pickup : Pickup) → forward_pickup pickup ≡ true → small_pickup pickup ≡ true → (bar : ℕ) → bar ≤ 2147483648 → is_accepted (checked_start map default pickup bar) ≡ true
+  walks : (pickup : Option Beat) → forward_pickup pickup ≡ true → small_pickup pickup ≡ true → (bar : ℕ) → bar ≤ 2147483648 → is_accepted (checked_start map default pickup bar) ≡ true
   unfolding bar_len
-  walks Absent s t bar h =
-      sure_start 1 262144 (2 ^ 56) (room 1 (omega arith) (omega arith)) map default Absent (λ j. (meters j).den) size
+  walks None s t bar h =
+      sure_start 1 262144 (2 ^ 56) (room 1 (omega arith) (omega arith)) map default None (λ j. (meters j).den) size
       (sixteenths (meter_at map default 0)) bar (good_len (meter_at map default 0) (meters 0).den) h (omega (arith, size 0))
-  walks (Present beat) s t bar h =
+  walks (Some beat) s t bar h =
       let fine = and_left (is_beat beat) (le_z (pos 0) beat.num) s in
       let u = up beat.num in
       let d = leb-true beat.den 64 (and_left (leb beat.den 64) (le_z beat.num (pos (2 ^ 45 * beat.den))) t) in
@@ -175,7 +174,7 @@ module _ (map : List MeterPoint) (default : ℕ) (sound : sound_map map ≡ true
       = leb-true u (2 ^ 45 * beat.den) (sym (ap (λ (x : ℤ). le_z x (pos (2 ^ 45 * beat.den))) e) ∙ and_right (leb beat.den 64) (le_z beat.num (pos (2 ^ 45 * beat.den))) t) in
       let v : beat.den * bar ≤ 64 * 2147483648 = mul-le-mul d h in
       let o : Worth beat (pos (u * 16)) (beat.den * 16) = subst (λ (z : ℤ). Worth beat (z *ℤ pos 16) (beat.den * 16)) e (own_value beat 16) in
-      sure_start beat.den 262144 (2 ^ 56) (room beat.den (beat_above beat fine) d) map default (Present beat) (λ j. (meters j).den) size
+      sure_start beat.den 262144 (2 ^ 56) (room beat.den (beat_above beat fine) d) map default (Some beat) (λ j. (meters j).den) size
       (u * 16) bar (record { fine = fine; value = subst (λ (k : ℕ). Worth beat (pos (u * 16)) k) (mul_comm beat.den 16) o }) h (omega arith)
 
 -- a score within the bounds fits

@@ -1,4 +1,5 @@
 -- The count's two cases, and the first bar that reaches a beat where starts never fall: the test then stays true once it is.
+use Rattle.std.proofs.Common.{Option}
 use mathlib.Core.Path.{◌≡◌, refl, sym, ap, ◌∙◌}
 use mathlib.Core.Bool.{Bool, true, false, not}
 use mathlib.Core.List.{List}
@@ -12,13 +13,11 @@ use Rattle.beats.specs.Beats.{is_beat, zero_beat}
 use Rattle.beats.specs.Sums.{below_beat}
 use Rattle.beats.proofs.Laws.{not_below}
 use Rattle.meter.specs.declared.MeterPoint.{MeterPoint}
-use Rattle.meter.specs.declared.Pickup.{Pickup}
-use Rattle.meter.specs.declared.count.Upper.{Upper}
 use Rattle.meter.specs.Starts.{start_of}
 use Rattle.meter.specs.Counts.{doubling, within, searched, Least, reaches, count_at}
 use Rattle.meter.proofs.Searching.{Stays, searched_least, searched_none}
 
-module _ (map : List MeterPoint) (default : ℕ) (pickup : Pickup) (beat : Beat) where
+module _ (map : List MeterPoint) (default : ℕ) (pickup : Option Beat) (beat : Beat) where
   abbrev test : ℕ → Bool
   test = reaches map default pickup beat
 
@@ -31,7 +30,7 @@ module _ (map : List MeterPoint) (default : ℕ) (pickup : Pickup) (beat : Beat)
   count_zero t = rw (t, count_at)
 
   -- from what doubling found
-  pub count_within : (upper : Upper) → below_beat zero_beat beat ≡ true → upper ≡ doubling test 32 1 → within test upper ≡ count_at map default pickup beat
+  pub count_within : (upper : Option ℕ) → below_beat zero_beat beat ≡ true → upper ≡ doubling test 32 1 → within test upper ≡ count_at map default pickup beat
   unfolding searched
   count_within upper t e = ap (within test) e ∙ sym (count_searched t)
 
@@ -42,7 +41,7 @@ pub record Rising (start : ℕ → Beat) : Type 0 where
   pub beats : (bar : ℕ) → bar ≤ 2147483648 → is_beat (start bar) ≡ true
   pub rises : (i j : ℕ) → i ≤ j → j ≤ 2147483648 → below_beat (start j) (start i) ≡ false
 
-module _ (map : List MeterPoint) (default : ℕ) (pickup : Pickup) (rising : Rising (start_of map default pickup)) (beat : Beat) (fine : is_beat beat ≡ true) where
+module _ (map : List MeterPoint) (default : ℕ) (pickup : Option Beat) (rising : Rising (start_of map default pickup)) (beat : Beat) (fine : is_beat beat ≡ true) where
   abbrev start : ℕ → Beat
   start = start_of map default pickup
 

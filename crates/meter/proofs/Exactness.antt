@@ -1,4 +1,5 @@
 -- Where no operation of the walk is refused, a start is the sum of the lengths of the bars before it: the bars of a segment last equally long, and n equal lengths have the value of one, scaled by n.
+use Rattle.std.proofs.Common.{None, Option, Some}
 use mathlib.Core.Path.{◌≡◌, refl, sym, ap, ◌∙◌, subst}
 use mathlib.Core.Bool.{true, false}
 use mathlib.Core.List.{List}
@@ -15,8 +16,6 @@ use Rattle.beats.specs.Sums.{storable, add_beats, mul_beat, or_most, below_beat,
 use Rattle.beats.specs.Values.{Worth}
 use Rattle.beats.proofs.Laws.{new_is_beat, own_value, one_beat, beat_above, accepted_beat, accepted_storable, sum_value, scaled_value, same_value, value_forward, zero_beat_lem, own_value_left, sum_beat, sum_is, sum_has, below_values, below_same, not_below}
 use Rattle.meter.specs.declared.MeterPoint.{MeterPoint}
-use Rattle.meter.specs.declared.Pickup.{Pickup}
-use Rattle.meter.specs.declared.Pickup.TheVariants.{Absent, Present}
 use Rattle.meter.specs.Meters.{meter_at, len_of, bar_len, next_change}
 use Rattle.meter.specs.Starts.{after_bars, segments, start_of, checked_bars, checked_segments, checked_start, exact_start}
 use Rattle.meter.specs.Fits.{forward_pickup}
@@ -47,7 +46,7 @@ len_beat : (meter : MeterPoint) → is_beat (len_of meter) ≡ true
 unfolding len_of
 len_beat meter = new_is_beat (pos (meter.numerator * 4)) meter.denominator
 
-module _ (map : List MeterPoint) (default : ℕ) (pickup : Pickup) where
+module _ (map : List MeterPoint) (default : ℕ) (pickup : Option Beat) where
   abbrev len : ℕ → Beat
   len = bar_len map default pickup
 
@@ -201,19 +200,19 @@ unfolding len_of
 len_forward meter = value_forward (len_of meter) (meter.numerator * 4) (max meter.denominator 1) (omega arith) (same_value (pos (meter.numerator * 4)) meter.denominator)
 
 module _ (map : List MeterPoint) (default : ℕ) where
-  pub forward_beat : (pickup : Pickup) → forward_pickup pickup ≡ true → (bar : ℕ) → is_beat (bar_len map default pickup bar) ≡ true
+  pub forward_beat : (pickup : Option Beat) → forward_pickup pickup ≡ true → (bar : ℕ) → is_beat (bar_len map default pickup bar) ≡ true
   unfolding bar_len
-  forward_beat Absent e zero = len_beat (meter_at map default 0)
-  forward_beat (Present beat) e zero = and_left (is_beat beat) (le_z (pos 0) beat.num) e
+  forward_beat None e zero = len_beat (meter_at map default 0)
+  forward_beat (Some beat) e zero = and_left (is_beat beat) (le_z (pos 0) beat.num) e
   forward_beat pickup e (suc bar) = len_beat (meter_at map default (suc bar))
 
-  pub forward_len : (pickup : Pickup) → forward_pickup pickup ≡ true → (bar : ℕ) → down (bar_len map default pickup bar).num ≡ 0
+  pub forward_len : (pickup : Option Beat) → forward_pickup pickup ≡ true → (bar : ℕ) → down (bar_len map default pickup bar).num ≡ 0
   unfolding bar_len
-  forward_len Absent e zero = len_forward (meter_at map default 0)
-  forward_len (Present beat) e zero = not_negative beat.num (and_right (is_beat beat) (le_z (pos 0) beat.num) e)
+  forward_len None e zero = len_forward (meter_at map default 0)
+  forward_len (Some beat) e zero = not_negative beat.num (and_right (is_beat beat) (le_z (pos 0) beat.num) e)
   forward_len pickup e (suc bar) = len_forward (meter_at map default (suc bar))
 
-module _ (map : List MeterPoint) (default : ℕ) (pickup : Pickup) (forward : forward_pickup pickup ≡ true) where
+module _ (map : List MeterPoint) (default : ℕ) (pickup : Option Beat) (forward : forward_pickup pickup ≡ true) where
   exact_step : (bar : ℕ) → below_beat (exact map default pickup (suc bar)) (exact map default pickup bar) ≡ false
   unfolding exact_start
   exact_step bar =

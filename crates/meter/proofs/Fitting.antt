@@ -1,4 +1,5 @@
 -- For a score that fits, the count is the first bar that starts at or after the beat: its starts are the exact sums, which never fall.
+use Rattle.std.proofs.Common.{None, Option, Some, Ok}
 use mathlib.Core.Path.{◌≡◌, refl, sym, ap, ◌∙◌}
 use mathlib.Core.Bool.{true, false, not, ◌&&◌}
 use mathlib.Core.List.{List}
@@ -16,9 +17,6 @@ use Rattle.beats.specs.Beats.{is_beat}
 use Rattle.beats.specs.Sums.{storable, below_beat}
 use Rattle.beats.proofs.Laws.{is_fine}
 use Rattle.meter.specs.declared.MeterPoint.{MeterPoint}
-use Rattle.meter.specs.declared.Pickup.{Pickup}
-use Rattle.meter.specs.declared.Pickup.TheVariants.{Absent, Present}
-use Rattle.meter.specs.declared.CountAnswer.TheVariants.{Bars}
 use Rattle.meter.specs.Meters.{points_of, sound_pickup}
 use Rattle.meter.specs.Starts.{start_of, exact_start}
 use Rattle.meter.specs.Counts.{Least, reaches, count_at}
@@ -28,9 +26,9 @@ use Rattle.meter.specs.Promise.{arrives, FirstBar, CountPromise}
 use Rattle.meter.proofs.Scanning.{points_length}
 use Rattle.meter.proofs.Counting.{Rising, count_least, count_past}
 use Rattle.meter.proofs.Exactness.{exact_beat, start_exact, start_stored, starts_rise}
-use Rattle.meter.proofs.Readings.{counts_apart}
+use Rattle.numbers.proofs.Laws.{results_apart}
 
-module _ (map : List MeterPoint) (default : ℕ) (pickup : Pickup) (fits : Fits map default pickup) where
+module _ (map : List MeterPoint) (default : ℕ) (pickup : Option Beat) (fits : Fits map default pickup) where
   -- each start is the sum of the lengths before it
   pub fit_exact : (bar : ℕ) → bar ≤ last_bar → start_of map default pickup bar ≡ exact_start map default pickup bar
   fit_exact bar h = start_exact map default pickup bar (fits.walks bar h)
@@ -77,16 +75,16 @@ pub points_few : (map : List MeterPoint) → sound_map map ≡ true → length m
 unfolding sound_map
 points_few map s = leb-true (length map) 256 (and_left (leb (length map) 256) (first_zero map && sound_from 0 map) s)
 
-pub forward_sound : (pickup : Pickup) → forward_pickup pickup ≡ true → sound_pickup pickup ≡ true
-forward_sound Absent e = refl
-forward_sound (Present beat) e = and_left (is_beat beat) (le_z (pos 0) beat.num) e
+pub forward_sound : (pickup : Option Beat) → forward_pickup pickup ≡ true → sound_pickup pickup ≡ true
+forward_sound None e = refl
+forward_sound (Some beat) e = and_left (is_beat beat) (le_z (pos 0) beat.num) e
 
 -- past the tests for 3, 4 and 1 stands the answer
-pub passed : {A : Type 0} (words : List ℕ) (pickup : Pickup) (answer : Answer A) → length words % 3 ≡ 0 → length words ≤ 65536 * 3 → sound_pickup pickup ≡ true
+pub passed : {A : Type 0} (words : List ℕ) (pickup : Option Beat) (answer : Answer A) → length words % 3 ≡ 0 → length words ≤ 65536 * 3 → sound_pickup pickup ≡ true
     → answer ≡ if_map words (if_pickup pickup answer)
 passed words pickup answer even few sound = rw (eq-eqb _ _ even, le-leb _ _ few, sound)
 
-module _ (words : List ℕ) (default : ℕ) (pickup : Pickup) (beat : Beat) (even : length words % 3 ≡ 0) (fits : Fits (points_of words) default pickup) (fine : is_beat beat ≡ true) where
+module _ (words : List ℕ) (default : ℕ) (pickup : Option Beat) (beat : Beat) (even : length words % 3 ≡ 0) (fits : Fits (points_of words) default pickup) (fine : is_beat beat ≡ true) where
   answered : accepted (count_at (points_of words) default pickup beat) ≡ count_answer words default pickup beat
   answered =
       is_fine (is_beat beat) _ fine
@@ -95,4 +93,4 @@ module _ (words : List ℕ) (default : ℕ) (pickup : Pickup) (beat : Beat) (eve
 pub count_keeps : CountPromise
 count_keeps words default pickup beat even fits fine answer e =
     let bars = count_at (points_of words) default pickup beat in
-    (bars, (counts_apart answer (Bars bars) (e ∙ sym (answered words default pickup beat even fits fine)), fit_first (points_of words) default pickup fits beat fine))
+    (bars, (results_apart answer (Ok bars) (e ∙ sym (answered words default pickup beat even fits fine)), fit_first (points_of words) default pickup fits beat fine))

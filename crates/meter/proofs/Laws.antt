@@ -24,5 +24,3 @@ pub use Rattle.meter.proofs.Bounds.{sixteenths, good_len}
 pub use Rattle.meter.proofs.Bounds.{suffices}
 -- past the tests of a map and of a pickup stands the answer
 pub use Rattle.meter.proofs.Fitting.{passed}
--- no two cases of an answer read alike
-pub use Rattle.meter.proofs.Readings.{meters_apart, bars_apart, counts_apart}

@@ -4,7 +4,6 @@ pub mod Passing
 pub mod Searching
 pub mod Counting
 pub mod Exactness
-pub mod Readings
 pub mod Fitting
 pub mod Bounds
 pub mod Laws

@@ -1,21 +1,19 @@
 -- Where the bars of a map ascend, one pass over it gives each start: what is left of the map says what the whole map says of the bars from there on.
+use Rattle.std.proofs.Common.{Option}
 use mathlib.Core.Path.{◌≡◌, refl, sym, ap, ◌∙◌}
 use mathlib.Core.Bool.{Bool, true, cond, ◌&&◌}
 use mathlib.Core.List.{List, [], ◌∷◌}
-use Prim.Native.Nat.{ℕ, suc, min, max, ◌+◌, ◌-◌, ◌<◌, ◌≤◌}
+use Prim.Native.Nat.{ℕ, suc, min, max, ◌-◌, ◌<◌, ◌≤◌}
 use native.Mathlib.Nat.{le_refl, le_trans, le_of_lt, min-eq_left, min-eq_right, max-eq_right, max-eq_left}
 use native.Mathlib.Omega.{arith}
 use lib.Dec.{leb, ltb}
-use lib.ListN.{length, get_or}
 use borrow.Author.Tests.{lt-ltb, le-ltb, leb-true, le-leb}
 use Rattle.numbers.proofs.Laws.{by_order, and_left, and_right}
 use Rattle.beats.specs.declared.Beat.{Beat}
 use Rattle.meter.specs.declared.MeterPoint.{MeterPoint}
-use Rattle.meter.specs.declared.Pickup.{Pickup}
-use Rattle.meter.specs.Meters.{point_at, nearer, last_at, fallback, meter_at, len_of, bar_len, next_change}
+use Rattle.meter.specs.Meters.{nearer, last_at, fallback, meter_at, len_of, bar_len, next_change}
 use Rattle.meter.specs.Starts.{after_bars, ending, segments, start_of, ascends}
 use Rattle.meter.specs.Fits.{good_den, sound_from}
-use Rattle.meter.proofs.Scanning.{left, points_step, points_end}
 use Rattle.meter.proofs.Walking.{nearer_above, nearer_else, later_in, later_out, ending_bars, ending_none, len_rest, segments_over, segments_turn, one, start_segments}
 
 -- from a bar, which starts at `at` and where the meter is `meter`, to the bar `end`, over the points that are left
@@ -63,7 +61,7 @@ last_ahead (point ∷ rest) low bar found s h =
 
 -- ---- the pass is the walk
 
-module _ (map : List MeterPoint) (default : ℕ) (pickup : Pickup) where
+module _ (map : List MeterPoint) (default : ℕ) (pickup : Option Beat) where
   -- what is left of the map, with the meter at a bar, says what the whole map says from there on
   pub record Rest (points : List MeterPoint) (bar : ℕ) (meter : MeterPoint) : Type 0 where
     pub meters : (k : ℕ) → bar ≤ k → meter_at map default k ≡ last_at points k meter
@@ -139,20 +137,20 @@ module _ (map : List MeterPoint) (default : ℕ) (pickup : Pickup) where
 
 -- ---- what the code needs
 
-module _ (words : List ℕ) (i bar end : ℕ) (meter : MeterPoint) (at : Beat) where
-  pub pass_end : length words ≤ i + 2 → pass (left words i) bar end meter at ≡ ending bar end meter at
+module _ (map : List MeterPoint) (bar end : ℕ) (meter : MeterPoint) (at : Beat) where
+  pub pass_end : map ≡ [] → pass map bar end meter at ≡ ending bar end meter at
   unfolding pass
-  pass_end h = ap (λ (map : List MeterPoint). pass map bar end meter at) (points_end words i h)
+  pass_end e = ap (λ (map : List MeterPoint). pass map bar end meter at) e
 
-  module _ (h : i + 2 < length words) where
-    pub pass_stop : end ≤ get_or words i 0 → pass (left words i) bar end meter at ≡ ending bar end meter at
-    pass_stop k = ap (λ (map : List MeterPoint). pass map bar end meter at) (points_step words i h) ∙ pass_past (point_at words i) (left words (i + 3)) bar end meter at k
+  module _ (point : MeterPoint) (rest : List MeterPoint) (e : map ≡ point ∷ rest) where
+    pub pass_stop : end ≤ point.bar → pass map bar end meter at ≡ ending bar end meter at
+    pass_stop k = ap (λ (map : List MeterPoint). pass map bar end meter at) e ∙ pass_past point rest bar end meter at k
 
-    pub pass_again : (next : ℕ) (after there : Beat) → get_or words i 0 < end → next ≡ max bar (get_or words i 0) → after ≡ ending bar (get_or words i 0) meter at
-        → pass (left words i) bar end meter at ≡ there → pass (left words (i + 3)) next end (point_at words i) after ≡ there
+    pub pass_again : (next : ℕ) (after there : Beat) → point.bar < end → next ≡ max bar point.bar → after ≡ ending bar point.bar meter at
+        → pass map bar end meter at ≡ there → pass rest next end point after ≡ there
     pass_again next after there k en ea q =
-        (λ t. pass (left words (i + 3)) (en t) end (point_at words i) (ea t))
-        ∙ sym (ap (λ (map : List MeterPoint). pass map bar end meter at) (points_step words i h) ∙ pass_on (point_at words i) (left words (i + 3)) bar end meter at k)
+        (λ t. pass rest (en t) end point (ea t))
+        ∙ sym (ap (λ (map : List MeterPoint). pass map bar end meter at) e ∙ pass_on point rest bar end meter at k)
         ∙ q
 
 -- ---- a map without problems ascends

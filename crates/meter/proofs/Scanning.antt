@@ -8,6 +8,8 @@ use native.Mathlib.Omega.{arith}
 use lib.Dec.{leb}
 use lib.ListN.{length, get_or, drop, length-drop}
 use lib.Seq.{drop-cons}
+use Rattle.std.proofs.Common.{◌-◌, take}
+use Rattle.std.proofs.lemmas.List.{take_all}
 use borrow.Author.Tests.{le-leb, lt-leb}
 use Rattle.meter.specs.declared.MeterPoint.{MeterPoint}
 use Rattle.meter.specs.Meters.{points_of, point_at, later, last_at, nearer, next_change}
@@ -48,41 +50,42 @@ module _ (words : List ℕ) (i : ℕ) where
   pub points_end : length words ≤ i + 2 → left ≡ []
   points_end h = few_words (drop i words) (simp length-drop (omega arith))
 
+-- what an iterator over the points takes off the words
+pub points_first : (words : List ℕ) → 3 ≤ length words → points_of words ≡ point_at words 0 ∷ points_of (take (length words - 3) (drop 3 words))
+points_first words h =
+    points_step words 0 (omega arith)
+    ∙ ap (λ (rest : List ℕ). point_at words 0 ∷ points_of rest) (sym (take_all (length words - 3) (drop 3 words) (simp length-drop (omega arith))))
+
 -- ---- the end of each scan, and a turn of it: what is left gives the same answer
 
-module _ (words : List ℕ) (i : ℕ) (h : length words ≤ i + 2) where
-  pub last_end : (bar : ℕ) (found : MeterPoint) → last_at (left words i) bar found ≡ found
+module _ (map : List MeterPoint) (e : map ≡ []) where
+  pub last_end : (bar : ℕ) (found : MeterPoint) → last_at map bar found ≡ found
   unfolding last_at
-  last_end bar found = ap (λ (map : List MeterPoint). last_at map bar found) (points_end words i h)
+  last_end bar found = ap (λ (map : List MeterPoint). last_at map bar found) e
 
-  pub next_end : (bar end : ℕ) → next_change (left words i) bar end ≡ end
+  pub next_end : (bar end : ℕ) → next_change map bar end ≡ end
   unfolding next_change
-  next_end bar end = ap (λ (map : List MeterPoint). next_change map bar end) (points_end words i h)
+  next_end bar end = ap (λ (map : List MeterPoint). next_change map bar end) e
 
-  pub ascends_end : (low : ℕ) → ascends low (left words i) ≡ true
+  pub ascends_end : (low : ℕ) → ascends low map ≡ true
   unfolding ascends
-  ascends_end low = ap (ascends low) (points_end words i h)
+  ascends_end low = ap (ascends low) e
 
-module _ (words : List ℕ) (i : ℕ) (h : i + 2 < length words) where
-  abbrev rest : List MeterPoint
-  rest = left words (i + 3)
-
-  pub last_again : (bar : ℕ) (found next first : MeterPoint) → next ≡ later (point_at words i) bar found
-      → last_at (left words i) bar found ≡ first → last_at rest bar next ≡ first
+module _ (map rest : List MeterPoint) (point : MeterPoint) (e : map ≡ point ∷ rest) where
+  pub last_again : (bar : ℕ) (found next first : MeterPoint) → next ≡ later point bar found → last_at map bar found ≡ first → last_at rest bar next ≡ first
   unfolding last_at
-  last_again bar found next first e q = ap (last_at rest bar) e ∙ sym (ap (λ (map : List MeterPoint). last_at map bar found) (points_step words i h)) ∙ q
+  last_again bar found next first l q = ap (last_at rest bar) l ∙ sym (ap (λ (map : List MeterPoint). last_at map bar found) e) ∙ q
 
-  pub next_again : (bar end next first : ℕ) → next ≡ nearer (get_or words i 0) bar end
-      → next_change (left words i) bar end ≡ first → next_change rest bar next ≡ first
+  pub next_again : (bar end next first : ℕ) → next ≡ nearer point.bar bar end → next_change map bar end ≡ first → next_change rest bar next ≡ first
   unfolding next_change
-  next_again bar end next first e q = ap (next_change rest bar) e ∙ sym (ap (λ (map : List MeterPoint). next_change map bar end) (points_step words i h)) ∙ q
+  next_again bar end next first n q = ap (next_change rest bar) n ∙ sym (ap (λ (map : List MeterPoint). next_change map bar end) e) ∙ q
 
-  ascends_step : (low : ℕ) → ascends low (left words i) ≡ leb low (get_or words i 0) && ascends (get_or words i 0) rest
+  ascends_step : (low : ℕ) → ascends low map ≡ leb low point.bar && ascends point.bar rest
   unfolding ascends
-  ascends_step low = ap (ascends low) (points_step words i h)
+  ascends_step low = ap (ascends low) e
 
-  pub ascends_not : (low : ℕ) → get_or words i 0 < low → ascends low (left words i) ≡ false
-  ascends_not low k = ascends_step low ∙ ap (λ (t : Bool). t && ascends (get_or words i 0) rest) (lt-leb low (get_or words i 0) k)
+  pub ascends_not : (low : ℕ) → point.bar < low → ascends low map ≡ false
+  ascends_not low k = ascends_step low ∙ ap (λ (t : Bool). t && ascends point.bar rest) (lt-leb low point.bar k)
 
-  pub ascends_again : (low : ℕ) → low ≤ get_or words i 0 → ascends (get_or words i 0) rest ≡ ascends low (left words i)
-  ascends_again low k = sym (ascends_step low ∙ ap (λ (t : Bool). t && ascends (get_or words i 0) rest) (le-leb low (get_or words i 0) k))
+  pub ascends_again : (low : ℕ) → low ≤ point.bar → ascends point.bar rest ≡ ascends low map
+  ascends_again low k = sym (ascends_step low ∙ ap (λ (t : Bool). t && ascends point.bar rest) (le-leb low point.bar k))

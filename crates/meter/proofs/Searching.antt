@@ -1,4 +1,5 @@
 -- The search, over any test of bars that stays true once it is up to 2^31: doubling ends at a bar that passes or shows that 2^31 fails, and halving keeps a bar that fails below one that passes.
+use Rattle.std.proofs.Common.{None, Option, Some}
 use mathlib.Core.Path.{◌≡◌, refl, sym, ap, ◌∙◌}
 use mathlib.Core.Bool.{Bool, true, false}
 use Prim.Native.Nat.{ℕ, zero, suc, ◌+◌, ◌-◌, ◌*◌, ◌/◌, ◌<◌, ◌≤◌, ◌^◌}
@@ -7,8 +8,6 @@ use native.Mathlib.Omega.{arith}
 use lib.Pow.{pow_pos}
 use borrow.Author.Tests.{lt-ltb, le-ltb}
 use Rattle.numbers.proofs.Laws.{cases, not_both, by_order}
-use Rattle.meter.specs.declared.count.Upper.{Upper}
-use Rattle.meter.specs.declared.count.Upper.TheVariants.{Bar, Unsearched}
 use Rattle.meter.specs.Counts.{doubling, halving, within, searched, Least}
 
 -- up to 2^31, a test that a bar passes is passed by the bars from there on
@@ -19,7 +18,7 @@ module _ (test : ℕ → Bool) where
   -- ---- one step of each
 
   module _ (tries hi : ℕ) where
-    doubling_ends : test hi ≡ true → doubling test (suc tries) hi ≡ Bar hi
+    doubling_ends : test hi ≡ true → doubling test (suc tries) hi ≡ Some hi
     unfolding doubling
     doubling_ends t = rw (t, doubling)
 
@@ -70,17 +69,17 @@ module _ (test : ℕ → Bool) where
     halving_second s = halving_enough 32 31 (lo + (hi - lo) / 2) hi (omega arith) (omega arith) ∙ sym (halving_up 31 lo hi h s)
 
   -- hi is a power of two at most 2^31, and what doubling makes of it is `upper`
-  abbrev pub Doubled : Upper → ℕ → Type 0
+  abbrev pub Doubled : Option ℕ → ℕ → Type 0
   Doubled upper hi = (tries : ℕ) × ((hi * 2 ^ tries ≡ 2147483648) × (doubling test (suc tries) hi ≡ upper))
 
   pub doubled_first : Doubled (doubling test 32 1) 1
   doubled_first = (31, (refl, refl))
 
-  pub doubled_pos : (upper : Upper) (hi : ℕ) → Doubled upper hi → 0 < hi
+  pub doubled_pos : (upper : Option ℕ) (hi : ℕ) → Doubled upper hi → 0 < hi
   doubled_pos upper zero d = let z : ◌≡◌ {A = ℕ} 0 2147483648 = sym (zero-mul (2 ^ d.0)) ∙ d.1.0 in absurd (omega arith)
   doubled_pos upper (suc hi) d = zero-lt-suc hi
 
-  pub doubled_ends : (upper : Upper) (hi : ℕ) → Doubled upper hi → test hi ≡ true → Bar hi ≡ upper
+  pub doubled_ends : (upper : Option ℕ) (hi : ℕ) → Doubled upper hi → test hi ≡ true → Some hi ≡ upper
   doubled_ends upper hi d t = sym (doubling_ends d.0 hi t) ∙ d.1.1
 
   at_most : (tries hi : ℕ) → 2147483648 ≤ hi → hi * 2 ^ tries ≡ 2147483648 → tries ≡ 0
@@ -91,12 +90,12 @@ module _ (test : ℕ → Bool) where
       let z : ⊥ = omega (arith, ap (λ (n : ℕ). hi * n) (pow-succ' 2 tries)) in
       absurd z
 
-  pub doubled_none : (upper : Upper) (hi : ℕ) → Doubled upper hi → 2147483648 ≤ hi → test hi ≡ false → Unsearched ≡ upper
+  pub doubled_none : (upper : Option ℕ) (hi : ℕ) → Doubled upper hi → 2147483648 ≤ hi → test hi ≡ false → None ≡ upper
   unfolding doubling
   doubled_none upper hi d h t =
       sym (doubling_more 0 hi t) ∙ ap (λ (tries : ℕ). doubling test (suc tries) hi) (sym (at_most d.0 hi h d.1.0)) ∙ d.1.1
 
-  pub doubled_more : (upper : Upper) (hi : ℕ) → Doubled upper hi → hi < 2147483648 → test hi ≡ false → Doubled upper (hi * 2)
+  pub doubled_more : (upper : Option ℕ) (hi : ℕ) → Doubled upper hi → hi < 2147483648 → test hi ≡ false → Doubled upper (hi * 2)
   doubled_more upper hi d h t = by_tries d.0 d.1.0 d.1.1
     where
       by_tries : (tries : ℕ) → hi * 2 ^ tries ≡ 2147483648 → doubling test (suc tries) hi ≡ upper → Doubled upper (hi * 2)
@@ -121,9 +120,9 @@ module _ (test : ℕ → Bool) where
         (λ t. rw (halving_ends times lo hi t) (record { passes = q; fails = λ k kh. earlier k lo (omega arith) (omega arith) p }))
 
     -- what doubling found
-    abbrev Found : Upper → Type 0
-    Found (Bar hi) = (test hi ≡ true) × ((0 < hi) × (hi ≤ 2147483648))
-    Found Unsearched = test 2147483648 ≡ false
+    abbrev Found : Option ℕ → Type 0
+    Found (Some hi) = (test hi ≡ true) × ((0 < hi) × (hi ≤ 2147483648))
+    Found None = test 2147483648 ≡ false
 
     doubled : (tries hi : ℕ) → 0 < hi → hi * 2 ^ tries ≡ 2147483648 → Found (doubling test (suc tries) hi)
     unfolding doubling
@@ -138,13 +137,13 @@ module _ (test : ℕ → Bool) where
     first : Found (doubling test 32 1)
     first = doubled 31 1 (omega arith) refl
 
-    least_within : (upper : Upper) → Found upper → test 0 ≡ false → test 2147483648 ≡ true → Least test (within test upper)
-    least_within (Bar hi) k p q = halved 32 0 hi (omega (arith, k.1.1)) k.1.0 k.1.1 p k.0
-    least_within Unsearched k p q = not_both (test 2147483648) q k
+    least_within : (upper : Option ℕ) → Found upper → test 0 ≡ false → test 2147483648 ≡ true → Least test (within test upper)
+    least_within (Some hi) k p q = halved 32 0 hi (omega (arith, k.1.1)) k.1.0 k.1.1 p k.0
+    least_within None k p q = not_both (test 2147483648) q k
 
-    none_within : (upper : Upper) → Found upper → test 2147483648 ≡ false → within test upper ≡ 4294967295
-    none_within (Bar hi) k p = not_both (test 2147483648) (stays hi 2147483648 k.1.1 (omega arith) k.0) p
-    none_within Unsearched k p = refl
+    none_within : (upper : Option ℕ) → Found upper → test 2147483648 ≡ false → within test upper ≡ 4294967295
+    none_within (Some hi) k p = not_both (test 2147483648) (stays hi 2147483648 k.1.1 (omega arith) k.0) p
+    none_within None k p = refl
 
     pub searched_least : test 0 ≡ false → test 2147483648 ≡ true → Least test (searched test)
     unfolding searched

@@ -1,4 +1,5 @@
 -- The walk by segments, one step at a time: the next change lies ahead and the meter stays up to it, so any bound that covers the bars left gives one answer.
+use Rattle.std.proofs.Common.{Option}
 use mathlib.Core.Path.{◌≡◌, refl, sym, ap, ◌∙◌, subst}
 use mathlib.Core.List.{List, [], ◌∷◌}
 use Prim.Native.Nat.{ℕ, zero, suc, min, ◌-◌, ◌<◌, ◌≤◌}
@@ -12,7 +13,6 @@ use Rattle.beats.specs.declared.Beat.{Beat}
 use Rattle.beats.specs.Beats.{zero_beat}
 use Rattle.beats.specs.Sums.{add_beats, mul_beat, or_most}
 use Rattle.meter.specs.declared.MeterPoint.{MeterPoint}
-use Rattle.meter.specs.declared.Pickup.{Pickup}
 use Rattle.meter.specs.Meters.{later, nearer, last_at, fallback, meter_at, len_of, pickup_or, bar_len, next_change}
 use Rattle.meter.specs.Starts.{after_bars, ending, segments, start_of, checked_bars, checked_segments, ascends, opening_of}
 
@@ -89,7 +89,7 @@ module _ (bar end : ℕ) (meter : MeterPoint) (at : Beat) where
   unfolding ending
   ending_none h = rw (le-ltb bar end h, ending)
 
-module _ (map : List MeterPoint) (default : ℕ) (pickup : Pickup) where
+module _ (map : List MeterPoint) (default : ℕ) (pickup : Option Beat) where
   -- ---- lengths
 
   pub len_first : (bar : ℕ) → bar ≡ 0 → pickup_or pickup (len_of (meter_at map default bar)) ≡ bar_len map default pickup bar
@@ -181,11 +181,11 @@ module _ (map : List MeterPoint) (default : ℕ) (pickup : Pickup) where
   abbrev pub one : Beat
   one = or_most (add_beats zero_beat (bar_len map default pickup 0))
 
-  pub opening_one : (opening_of map default pickup).one ≡ one
+  pub opening_one : (opening_of map default pickup).1 ≡ one
   unfolding opening_of
   opening_one = refl
 
-  pub opening_ascending : (opening_of map default pickup).ascending ≡ ascends 0 map
+  pub opening_ascending : (opening_of map default pickup).0 ≡ ascends 0 map
   unfolding opening_of
   opening_ascending = refl
 

@@ -1,11 +1,10 @@
 -- When a score fits, as document 01 says, and bounds that suffice for it.
-use Rattle.std.specs.Prelude.{Bool, true, ◌&&◌, ◌≡◌, List, [], ◌∷◌, ℕ, suc, ◌≤◌, ◌*◌, ◌%◌, ◌^◌, ltb, leb, eqb, length, pos}
+use Rattle.std.specs.Prelude.{Bool, true, ◌&&◌, ◌≡◌, List, [], ◌∷◌, ℕ, suc, ◌≤◌, ◌*◌, ◌%◌, ◌^◌, ltb, leb, eqb, length, pos, None, Option, Some}
 use Rattle.std.specs.Int.Signed.{le_z}
+use Rattle.beats.specs.declared.Beat.{Beat}
 use Rattle.numbers.specs.Answers.{is_accepted}
 use Rattle.beats.specs.Beats.{is_beat}
 use Rattle.meter.specs.declared.MeterPoint.{MeterPoint}
-use Rattle.meter.specs.declared.Pickup.{Pickup}
-use Rattle.meter.specs.declared.Pickup.TheVariants.{Absent, Present}
 use Rattle.meter.specs.Starts.{checked_start}
 
 -- ---- a map without problems
@@ -31,16 +30,16 @@ sound_map map = leb (length map) 256 && (first_zero map && sound_from 0 map)
 -- ---- fits
 
 -- absent, or a beat that is not below 0
-abbrev pub forward_pickup : Pickup → Bool
-forward_pickup Absent = true
-forward_pickup (Present beat) = is_beat beat && le_z (pos 0) beat.num
+abbrev pub forward_pickup : Option Beat → Bool
+forward_pickup None = true
+forward_pickup (Some beat) = is_beat beat && le_z (pos 0) beat.num
 
 -- the last bar that a walk has to reach, 2^31
 abbrev pub last_bar : ℕ
 last_bar = 2147483648
 
 -- the map has no problems, the pickup is absent or at least 0, and no addition or scaling of the walk is refused for any bar from 0 to 2^31
-pub record Fits (map : List MeterPoint) (default : ℕ) (pickup : Pickup) : Type 0 where
+pub record Fits (map : List MeterPoint) (default : ℕ) (pickup : Option Beat) : Type 0 where
   pub sound : sound_map map ≡ true
   pub forward : forward_pickup pickup ≡ true
   pub walks : (bar : ℕ) → bar ≤ last_bar → is_accepted (checked_start map default pickup bar) ≡ true
@@ -53,6 +52,6 @@ numerators_up_to limit [] = true
 numerators_up_to limit (point ∷ rest) = leb point.numerator limit && numerators_up_to limit rest
 
 -- absent, or at most 2^45 with a denominator of at most 64
-abbrev pub small_pickup : Pickup → Bool
-small_pickup Absent = true
-small_pickup (Present beat) = leb beat.den 64 && le_z beat.num (pos (2 ^ 45 * beat.den))
+abbrev pub small_pickup : Option Beat → Bool
+small_pickup None = true
+small_pickup (Some beat) = leb beat.den 64 && le_z beat.num (pos (2 ^ 45 * beat.den))

@@ -3,5 +3,4 @@ pub mod Starts
 pub mod Counts
 pub mod Fits
 pub mod Answers
-pub mod Readings
 pub mod Promise

@@ -1,10 +1,8 @@
 -- The meter in force at a bar, and how long a bar lasts.
-use Rattle.std.specs.Prelude.{Bool, true, cond, List, [], ◌∷◌, ℕ, zero, suc, min, max, ◌+◌, ◌*◌, leb, ltb, pos, get_or}
+use Rattle.std.specs.Prelude.{Bool, true, cond, List, [], ◌∷◌, ℕ, zero, suc, min, max, ◌+◌, ◌*◌, leb, ltb, pos, get_or, None, Option, Some}
 use Rattle.beats.specs.declared.Beat.{Beat}
 use Rattle.beats.specs.Beats.{new_beat, is_beat}
 use Rattle.meter.specs.declared.MeterPoint.{MeterPoint}
-use Rattle.meter.specs.declared.Pickup.{Pickup}
-use Rattle.meter.specs.declared.Pickup.TheVariants.{Absent, Present}
 
 -- ---- the map
 
@@ -44,19 +42,19 @@ unfoldable pub len_of : MeterPoint → Beat
 len_of meter = new_beat (pos (meter.numerator * 4)) meter.denominator
 
 -- the pickup, or the usual length where there is none
-abbrev pub pickup_or : Pickup → Beat → Beat
-pickup_or Absent usual = usual
-pickup_or (Present beat) usual = beat
+abbrev pub pickup_or : Option Beat → Beat → Beat
+pickup_or None usual = usual
+pickup_or (Some beat) usual = beat
 
 -- bar 0 lasts the pickup if there is one; every other bar lasts what its meter says
-unfoldable pub bar_len : List MeterPoint → ℕ → Pickup → ℕ → Beat
+unfoldable pub bar_len : List MeterPoint → ℕ → Option Beat → ℕ → Beat
 bar_len map default pickup zero = pickup_or pickup (len_of (meter_at map default 0))
 bar_len map default pickup (suc bar) = len_of (meter_at map default (suc bar))
 
 -- absent, or a beat
-abbrev pub sound_pickup : Pickup → Bool
-sound_pickup Absent = true
-sound_pickup (Present beat) = is_beat beat
+abbrev pub sound_pickup : Option Beat → Bool
+sound_pickup None = true
+sound_pickup (Some beat) = is_beat beat
 
 -- ---- changes
 

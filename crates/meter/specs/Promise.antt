@@ -1,21 +1,19 @@
 -- What is promised beyond each call's equation: what the count is for a score that fits, in plain sums (no walk, no saturation and no search stands in these definitions), and bounds
 -- within which a score fits.
-use Rattle.std.specs.Prelude.{Bool, true, false, not, ◌≡◌, List, ℕ, ◌≤◌, ◌%◌, length}
+use Rattle.std.specs.Prelude.{Bool, true, false, not, ◌≡◌, List, ℕ, ◌≤◌, ◌%◌, length, Option, Result, Ok}
 use Rattle.beats.specs.declared.Beat.{Beat}
 use Rattle.beats.specs.Beats.{is_beat}
 use Rattle.beats.specs.Sums.{below_beat}
 use Rattle.meter.specs.declared.MeterPoint.{MeterPoint}
-use Rattle.meter.specs.declared.Pickup.{Pickup}
-use Rattle.meter.specs.declared.CountAnswer.{CountAnswer}
-use Rattle.meter.specs.declared.CountAnswer.TheVariants.{Bars}
+use Rattle.numbers.specs.declared.refusal.Refusal.{Refusal}
 use Rattle.meter.specs.Meters.{points_of}
 use Rattle.meter.specs.Starts.{exact_start}
 use Rattle.meter.specs.Counts.{Least}
 use Rattle.meter.specs.Fits.{sound_map, forward_pickup, last_bar, Fits, numerators_up_to, small_pickup}
 use Rattle.meter.specs.Answers.{count_answer}
-use Rattle.meter.specs.Readings.{read_count}
+use Rattle.numbers.specs.Refusals.{read}
 
-module _ (map : List MeterPoint) (default : ℕ) (pickup : Pickup) (beat : Beat) where
+module _ (map : List MeterPoint) (default : ℕ) (pickup : Option Beat) (beat : Beat) where
   -- the lengths of the bars before this one add up to the beat or more
   abbrev pub arrives : ℕ → Bool
   arrives bar = not (below_beat (exact_start map default pickup bar) beat)
@@ -28,18 +26,18 @@ module _ (map : List MeterPoint) (default : ℕ) (pickup : Pickup) (beat : Beat)
 -- for the words of every score that fits and every beat, the call answers by this bar, and by nothing else
 abbrev pub CountPromise : Type 0
 CountPromise =
-    (words : List ℕ) (default : ℕ) (pickup : Pickup) (beat : Beat)
+    (words : List ℕ) (default : ℕ) (pickup : Option Beat) (beat : Beat)
     → length words % 3 ≡ 0
     → Fits (points_of words) default pickup
     → is_beat beat ≡ true
-    → (answer : CountAnswer)
-    → read_count answer ≡ count_answer words default pickup beat
-    → (bars : ℕ) × ((answer ≡ Bars bars) × FirstBar (points_of words) default pickup beat bars)
+    → (answer : Result ℕ Refusal)
+    → read answer ≡ count_answer words default pickup beat
+    → (bars : ℕ) × ((answer ≡ Ok bars) × FirstBar (points_of words) default pickup beat bars)
 
 -- numerators and default at most 4,096, and a pickup of at most 2^45 with a denominator of at most 64: of a map without problems and a pickup that is not below 0, such a score fits
 abbrev pub BoundsPromise : Type 0
 BoundsPromise =
-    (map : List MeterPoint) (default : ℕ) (pickup : Pickup)
+    (map : List MeterPoint) (default : ℕ) (pickup : Option Beat)
     → sound_map map ≡ true
     → forward_pickup pickup ≡ true
     → numerators_up_to 4096 map ≡ true

@@ -1,12 +1,10 @@
 -- Where a bar starts: by segments of one meter, as document 01 has it, and as the plain sum of the lengths before it.
-use Rattle.std.specs.Prelude.{Bool, true, false, cond, ◌&&◌, List, [], ◌∷◌, ℕ, zero, suc, ◌-◌, ltb, leb, pos}
+use Rattle.std.specs.Prelude.{Bool, true, false, cond, ◌&&◌, List, [], ◌∷◌, ℕ, zero, suc, ◌-◌, ltb, leb, pos, Option}
 use Rattle.numbers.specs.Answers.{Answer, accepted, then}
 use Rattle.beats.specs.declared.Beat.{Beat}
 use Rattle.beats.specs.Beats.{zero_beat}
 use Rattle.beats.specs.Sums.{add_beats, mul_beat, or_most, sum_of}
 use Rattle.meter.specs.declared.MeterPoint.{MeterPoint}
-use Rattle.meter.specs.declared.Pickup.{Pickup}
-use Rattle.meter.specs.declared.bars.Opening.{Opening}
 use Rattle.meter.specs.Meters.{len_of, bar_len, next_change}
 
 -- ---- the walk, which turns a refused operation into (2^63 - 1)/1 and goes on
@@ -19,7 +17,7 @@ after_bars at len n = or_most (add_beats at (or_most (mul_beat len (pos n) 1)))
 unfoldable pub ending : ℕ → ℕ → MeterPoint → Beat → Beat
 ending bar end meter at = cond (ltb bar end) (after_bars at (len_of meter) (end - bar)) at
 
-module _ (map : List MeterPoint) (default : ℕ) (pickup : Pickup) where
+module _ (map : List MeterPoint) (default : ℕ) (pickup : Option Beat) where
   -- from a bar, which starts at `at`, to the start of the bar `end`: the bars up to the next change are one segment.
   -- The first argument bounds the number of segments
   unfoldable pub segments : ℕ → ℕ → ℕ → Beat → Beat
@@ -43,15 +41,15 @@ ascends low [] = true
 ascends low (point ∷ rest) = leb low point.bar && ascends point.bar rest
 
 -- whether the bars ascend, and where bar 1 starts
-unfoldable pub opening_of : List MeterPoint → ℕ → Pickup → Opening
-opening_of map default pickup = record { ascending = ascends 0 map; one = or_most (add_beats zero_beat (bar_len map default pickup 0)) }
+unfoldable pub opening_of : List MeterPoint → ℕ → Option Beat → Bool × Beat
+opening_of map default pickup = (ascends 0 map, or_most (add_beats zero_beat (bar_len map default pickup 0)))
 
 -- ---- the same walk, refused as soon as one of its operations is
 
 unfoldable pub checked_bars : Beat → Beat → ℕ → Answer Beat
 checked_bars at len n = then (mul_beat len (pos n) 1) (λ span. add_beats at span)
 
-module _ (map : List MeterPoint) (default : ℕ) (pickup : Pickup) where
+module _ (map : List MeterPoint) (default : ℕ) (pickup : Option Beat) where
   unfoldable pub checked_segments : ℕ → ℕ → ℕ → Beat → Answer Beat
   checked_segments zero bar end at = accepted at
   checked_segments (suc most) bar end at =
@@ -66,7 +64,7 @@ module _ (map : List MeterPoint) (default : ℕ) (pickup : Pickup) where
 
 -- ---- the plain sum, bar by bar, in whole numbers of any size
 
-module _ (map : List MeterPoint) (default : ℕ) (pickup : Pickup) where
+module _ (map : List MeterPoint) (default : ℕ) (pickup : Option Beat) where
   -- the sum of the lengths of the bars before a bar
   unfoldable pub exact_start : ℕ → Beat
   exact_start zero = zero_beat

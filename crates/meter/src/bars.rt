@@ -1,12 +1,47 @@
 // The meter, the length and the start of a bar, for a map of any words: those that are left over
 // behind the last whole point count for nothing.
 ghost use Rattle.std.specs.Prelude.{◌≡◌, ◌<◌, true};
+ghost use Rattle.std.specs.Iterator.{YieldsFirst, item_count};
 ghost use Rattle.meter.specs.Meters.{points_of, fallback, later, meter_at, len_of, bar_len, nearer, next_change};
 ghost use Rattle.meter.specs.Fits.{good_den};
 ghost use Rattle.meter.specs.Starts.{after_bars, ending, start_of, ascends, opening_of};
 
-use crate::{MeterPoint, Pickup};
+use crate::MeterPoint;
 use beats::{Beat, sums};
+
+// The points of flat words, first to last.
+#[derive(Clone, Copy, Drop)]
+pub struct Points<'a> {
+    words: &'a [u32],
+}
+
+impl<'a> Iterator for Points<'a> {
+    type Item = MeterPoint;
+
+    ghost next_gives = { YieldsFirst (λ s. points_of s.words.now) };
+
+    ghost remaining = { item_count (λ s. points_of s.words.now) };
+
+    fn next(&mut self) -> Option<MeterPoint> {
+        let [bar, numerator, denominator, rest @ ..] = self.words else {
+            return None;
+        };
+        self.words = rest;
+        Some(MeterPoint {
+            bar: *bar,
+            numerator: *numerator,
+            denominator: *denominator,
+        })
+    }
+}
+
+impl<'a> Points<'a> {
+    pub fn new(words: &'a [u32]) -> Points<'a>
+        ensures { result.words.now ≡ words.now }
+    {
+        Points { words }
+    }
+}
 
 // The meter where no point is in force: max(default, 1)/4.
 pub fn unlisted(default: u32) -> MeterPoint
@@ -37,24 +72,6 @@ fn later_point(point: MeterPoint, bar: u32, found: MeterPoint) -> MeterPoint
     if at <= bar { point } else { found }
 }
 
-// The meter in force at a bar: the last listed point that begins at or before it.
-pub fn meter(words: &[u32], default: u32, bar: u32) -> MeterPoint
-    ensures { result ≡ meter_at (points_of words.now) default bar }
-{
-    let mut found = unlisted(default);
-    let mut i: usize = 0;
-    while i + 2 < words.len() {
-        let point = MeterPoint {
-            bar: words[i],
-            numerator: words[i + 1],
-            denominator: words[i + 2],
-        };
-        found = later_point(point, bar, found);
-        i += 3;
-    }
-    found
-}
-
 impl MeterPoint {
     // 4 * numerator / denominator quarter beats.
     pub fn len(self) -> Beat
@@ -64,14 +81,6 @@ impl MeterPoint {
         let d = self.denominator;
         Beat::new((n as u64 * 4) as i64, d)
     }
-}
-
-// How long a bar lasts: bar 0 the pickup, where there is one, and every other what its meter says.
-pub fn length(words: &[u32], default: u32, pickup: Pickup, bar: u32) -> Beat
-    ensures { result ≡ bar_len (points_of words.now) default pickup bar }
-{
-    let usual = meter(words, default, bar).len();
-    if bar == 0 { pickup.or(usual) } else { usual }
 }
 
 // The lesser of `change` and `end` where `change` is above the bar, and else `end`.
@@ -85,25 +94,12 @@ fn nearer_change(change: u32, bar: u32, end: u32) -> u32
     }
 }
 
-// The least of `end` and the listed bars above a bar.
-fn next_change(words: &[u32], bar: u32, end: u32) -> u32
-    ensures { result ≡ next_change (points_of words.now) bar end }
-{
-    let mut least = end;
-    let mut i: usize = 0;
-    while i + 2 < words.len() {
-        least = nearer_change(words[i], bar, least);
-        i += 3;
-    }
-    least
-}
-
 // The beat n bars of one length after a beat, each operation turned into (2^63 - 1)/1 where it is
 // refused.
 pub fn after_bars(at: Beat, len: Beat, n: u32) -> Beat
     ensures { result ≡ after_bars at len n }
 {
-    sums::add(at, sums::mul(len, n as i64, 1).or_most()).or_most()
+    sums::or_most(sums::add(at, sums::or_most(sums::mul(len, n as i64, 1))))
 }
 
 // The bars from `bar`, which starts at `at`, up to `end`, all of one meter.
@@ -117,110 +113,143 @@ fn up_to(at: Beat, meter: MeterPoint, bar: u32, end: u32) -> Beat
     }
 }
 
-// Whether each listed bar is at least the one before it.
-fn ascending(words: &[u32]) -> bool
-    ensures { result ≡ ascends 0 (points_of words.now) }
-{
-    let mut low: u32 = 0;
-    let mut i: usize = 0;
-    while i + 2 < words.len() {
-        let bar = words[i];
-        if bar < low {
-            return false;
-        }
-        low = bar;
-        i += 3;
-    }
-    true
-}
-
-// What every start begins with: the start of bar 1, and whether the map's bars ascend.
+// A meter map of flat words, three a point, with the numerator where it lists none and the pickup.
 #[derive(Clone, Copy)]
-pub struct Opening {
-    pub ascending: bool,
-    pub one: Beat,
+pub struct MeterMap<'a> {
+    pub words: &'a [u32],
+    pub default: u32,
+    pub pickup: Option<Beat>,
 }
 
-pub fn open(words: &[u32], default: u32, pickup: Pickup) -> Opening
-    ensures { result ≡ opening_of (points_of words.now) default pickup }
-{
-    let zero = Beat::zero();
-    let one = sums::add(zero, length(words, default, pickup, 0)).or_most();
-    Opening {
-        ascending: ascending(words),
-        one,
-    }
-}
-
-// The start of a bar above 0 by segments, whatever the order of the points: each next change is
-// looked for in the whole map.
-fn by_segments(words: &[u32], default: u32, pickup: Pickup, one: Beat, bar: u32) -> Beat
-    requires bar_nonzero { 0 < bar }
-    requires one_value { one ≡ (opening_of (points_of words.now) default pickup).one }
-    ensures { result ≡ start_of (points_of words.now) default pickup bar }
-{
-    let mut at = one;
-    let mut from: u32 = 1;
-    while from < bar {
-        let end = next_change(words, from, bar);
-        at = after_bars(at, length(words, default, pickup, from), end - from);
-        from = end;
-    }
-    at
-}
-
-// The start of a bar above 0 by one pass over a map whose bars ascend.
-fn by_pass(words: &[u32], default: u32, pickup: Pickup, one: Beat, bar: u32) -> Beat
-    requires bar_nonzero { 0 < bar }
-    requires one_value { one ≡ (opening_of (points_of words.now) default pickup).one }
-    requires words_value { ascends 0 (points_of words.now) ≡ true }
-    ensures { result ≡ start_of (points_of words.now) default pickup bar }
-{
-    let mut at = one;
-    let mut meter = unlisted(default);
-    let mut from: u32 = 1;
-    let mut i: usize = 0;
-    while i + 2 < words.len() {
-        let change = words[i];
-        if change >= bar {
-            return up_to(at, meter, from, bar);
+impl<'a> MeterMap<'a> {
+    // The meter in force at a bar: the last listed point that begins at or before it.
+    pub fn meter(&self, bar: u32) -> MeterPoint
+        ensures { result ≡ meter_at (points_of self.now.words.now) self.now.default bar }
+    {
+        let mut found = unlisted(self.default);
+        for point in Points::new(self.words) {
+            found = later_point(point, bar, found);
         }
-        at = up_to(at, meter, from, change);
-        from = numbers::larger(from, change);
-        meter = MeterPoint {
-            bar: change,
-            numerator: words[i + 1],
-            denominator: words[i + 2],
-        };
-        i += 3;
+        found
     }
-    up_to(at, meter, from, bar)
+
+    // How long a bar lasts: bar 0 the pickup, where there is one, and every other what its meter
+    // says.
+    pub fn length(&self, bar: u32) -> Beat
+        ensures { result ≡ bar_len (points_of self.now.words.now) self.now.default self.now.pickup bar }
+    {
+        let usual = self.meter(bar).len();
+        if bar != 0 {
+            return usual;
+        }
+        crate::pickup_or(self.pickup, usual)
+    }
+
+    // The least of `end` and the listed bars above a bar.
+    fn next_change(&self, bar: u32, end: u32) -> u32
+        ensures { result ≡ next_change (points_of self.now.words.now) bar end }
+    {
+        let mut least = end;
+        for point in Points::new(self.words) {
+            least = nearer_change(point.bar, bar, least);
+        }
+        least
+    }
+
+    // Whether each listed bar is at least the one before it.
+    fn ascending(&self) -> bool
+        ensures { result ≡ ascends 0 (points_of self.now.words.now) }
+    {
+        let mut low: u32 = 0;
+        for point in Points::new(self.words) {
+            if point.bar < low {
+                return false;
+            }
+            low = point.bar;
+        }
+        true
+    }
+
+    // What every start of the map begins with.
+    pub fn open(&self) -> Opening<'a>
+        ensures { result.map ≡ self.now }
+    {
+        let zero = Beat::zero();
+        let one = sums::or_most(sums::add(zero, self.length(0)));
+        Opening {
+            map: *self,
+            ascending: self.ascending(),
+            one,
+        }
+    }
+
+    // The beat at which a bar starts.
+    pub fn start(&self, bar: u32) -> Beat
+        ensures { result ≡ start_of (points_of self.now.words.now) self.now.default self.now.pickup bar }
+    {
+        self.open().start(bar)
+    }
 }
 
-// The start of a bar, with what is known of every start.
-pub fn start_after(opening: Opening, words: &[u32], default: u32, pickup: Pickup, bar: u32) -> Beat
-    requires { opening ≡ opening_of (points_of words.now) default pickup }
-    ensures { result ≡ start_of (points_of words.now) default pickup bar }
-{
-    let ascending = opening.ascending;
-    // made anew: the processor waits for a copy of what was just written word by word
-    let first = opening.one;
-    let num = first.num;
-    let den = first.den;
-    let one = Beat { num, den };
-    if bar == 0 {
-        return Beat::zero();
-    }
-    if ascending {
-        by_pass(words, default, pickup, one, bar)
-    } else {
-        by_segments(words, default, pickup, one, bar)
-    }
+// A map with what every start begins with: whether its bars ascend, and the start of bar 1.
+#[derive(Clone, Copy)]
+pub struct Opening<'a> {
+    pub map: MeterMap<'a>,
+    ascending: bool,
+    one: Beat,
+    ghost opened: { opening_of (points_of map.words.now) map.default map.pickup ≡ (ascending, one) },
 }
 
-// The beat at which a bar starts.
-pub fn start(words: &[u32], default: u32, pickup: Pickup, bar: u32) -> Beat
-    ensures { result ≡ start_of (points_of words.now) default pickup bar }
-{
-    start_after(open(words, default, pickup), words, default, pickup, bar)
+impl<'a> Opening<'a> {
+    // The start of a bar above 0 by segments, whatever the order of the points: each next change is
+    // looked for in the whole map.
+    fn by_segments(&self, bar: u32) -> Beat
+        requires { 0 < bar }
+        ensures { result ≡ start_of (points_of self.now.map.words.now) self.now.map.default self.now.map.pickup bar }
+    {
+        let map = self.map;
+        let mut at = self.one;
+        let mut from: u32 = 1;
+        // Stays: it goes on from change to change of the map, which is no count of turns.
+        while from < bar {
+            let end = map.next_change(from, bar);
+            at = after_bars(at, map.length(from), end - from);
+            from = end;
+        }
+        at
+    }
+
+    // The start of a bar above 0 by one pass over a map whose bars ascend.
+    fn by_pass(&self, bar: u32) -> Beat
+        requires bar_nonzero { 0 < bar }
+        requires ascending { self.now.ascending ≡ true }
+        ensures { result ≡ start_of (points_of self.now.map.words.now) self.now.map.default self.now.map.pickup bar }
+    {
+        let mut at = self.one;
+        let mut meter = unlisted(self.map.default);
+        let mut from: u32 = 1;
+        for point in Points::new(self.map.words) {
+            if point.bar >= bar {
+                return up_to(at, meter, from, bar);
+            }
+            at = up_to(at, meter, from, point.bar);
+            from = numbers::larger(from, point.bar);
+            meter = point;
+        }
+        up_to(at, meter, from, bar)
+    }
+
+    // The start of a bar.
+    pub fn start(&self, bar: u32) -> Beat
+        ensures { result ≡ start_of (points_of self.now.map.words.now) self.now.map.default self.now.map.pickup bar }
+    {
+        if bar == 0 {
+            return Beat::zero();
+        }
+        if self.ascending {
+            self.by_pass(bar)
+        } else {
+            self.by_segments(bar)
+        }
+    }
 }

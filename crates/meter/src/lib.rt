@@ -4,12 +4,15 @@
 // which have tested their map, call `bars` and `count`.
 #![tactic(auto)]
 
-ghost use Rattle.std.specs.Prelude.{◌≡◌};
+ghost use Rattle.std.specs.Prelude.{◌≡◌, true, IfOk};
+ghost use Rattle.numbers.specs.Refusals.{read};
 ghost use Rattle.meter.specs.Meters.{pickup_or, sound_pickup};
-ghost use Rattle.meter.specs.Answers.{meter_answer, length_answer, start_answer, count_answer};
-ghost use Rattle.meter.specs.Readings.{read_meter, read_bar, read_count};
+ghost use Rattle.numbers.specs.Answers.{accepted};
+ghost use Rattle.meter.specs.Answers.{if_map, if_pickup, meter_answer, length_answer, start_answer, count_answer};
 
+use crate::bars::MeterMap;
 use beats::Beat;
+use numbers::Refusal;
 
 pub mod bars;
 pub mod count;
@@ -18,129 +21,91 @@ pub mod count;
 pub const MOST_WORDS: usize = 196_608;
 
 // A time signature from a bar on.
-#[derive(Clone, Copy)]
+#[derive(Clone, Copy, Debug, PartialEq, Eq)]
 pub struct MeterPoint {
     pub bar: u32,
     pub numerator: u32,
     pub denominator: u32,
 }
 
-// How long bar 0 lasts, where it is not what its meter says.
-#[derive(Clone, Copy)]
-pub enum Pickup {
-    Absent,
-    Present(Beat),
+// The pickup, which is how long bar 0 lasts, or `usual` where there is none.
+pub fn pickup_or(pickup: Option<Beat>, usual: Beat) -> Beat
+    ensures { result ≡ pickup_or pickup usual }
+{
+    pickup.unwrap_or(usual)
 }
 
-// A meter, or what refuses it: Uneven 3, TooLong 4.
-#[derive(Clone, Copy)]
-pub enum MeterAnswer {
-    Meter(MeterPoint),
-    Uneven,
-    TooLong,
-}
-
-// A bar's length or start, or what refuses it: Uneven 3, TooLong 4, NotBeat 1.
-#[derive(Clone, Copy)]
-pub enum BarAnswer {
-    Beats(Beat),
-    Uneven,
-    TooLong,
-    NotBeat,
-}
-
-// A count of bars, or what refuses it: Uneven 3, TooLong 4, NotBeat 1.
-#[derive(Clone, Copy)]
-pub enum CountAnswer {
-    Bars(u32),
-    Uneven,
-    TooLong,
-    NotBeat,
-}
-
-impl Pickup {
-    // The pickup, or `usual` where there is none.
-    pub fn or(self, usual: Beat) -> Beat
-        ensures { result ≡ pickup_or self usual }
-    {
-        match self {
-            Pickup::Absent => usual,
-            Pickup::Present(beat) => beat,
-        }
+// Whether there is none, or it is a beat.
+pub fn is_sound_pickup(pickup: Option<Beat>) -> bool
+    ensures { result ≡ sound_pickup pickup }
+{
+    match pickup {
+        None => true,
+        Some(beat) => beat.is_beat(),
     }
+}
 
-    // Whether it is absent or a beat.
-    pub fn is_sound(self) -> bool
-        ensures { result ≡ sound_pickup self }
-    {
-        match self {
-            Pickup::Absent => true,
-            Pickup::Present(beat) => beat.is_beat(),
-        }
+// The map and its pickup together: 3 where the words are not three a point, 4 where there are over
+// 65,536 points, 1 where the pickup is no beat.
+pub fn tested(words: &[u32], default: u32, pickup: Option<Beat>) -> Result<MeterMap<'_>, Refusal>
+    ensures answer { read result ≡ if_map words.now (if_pickup pickup (accepted (record { words = words.entry; default = default; pickup = pickup }))) }
+    ensures sound { IfOk result (λ map. sound_pickup map.pickup ≡ true) }
+{
+    if words.len() % 3 != 0 {
+        return Err(Refusal::Uneven);
     }
+    if words.len() > MOST_WORDS {
+        return Err(Refusal::TooLong);
+    }
+    if !is_sound_pickup(pickup) {
+        return Err(Refusal::NotBeat);
+    }
+    Ok(MeterMap {
+        words,
+        default,
+        pickup,
+    })
 }
 
 // The meter in force at a bar.
-pub fn meter_at(words: &[u32], default: u32, bar: u32) -> MeterAnswer
-    ensures { read_meter result ≡ meter_answer words.now default bar }
+pub fn meter_at(words: &[u32], default: u32, bar: u32) -> Result<MeterPoint, Refusal>
+    ensures { read result ≡ meter_answer words.now default bar }
 {
-    if words.len() % 3 != 0 {
-        return MeterAnswer::Uneven;
-    }
-    if words.len() > MOST_WORDS {
-        return MeterAnswer::TooLong;
-    }
-    MeterAnswer::Meter(bars::meter(words, default, bar))
+    Ok(tested(words, default, None)?.meter(bar))
 }
 
 // How long a bar lasts, in quarter beats.
-pub fn bar_len(words: &[u32], default: u32, pickup: Pickup, bar: u32) -> BarAnswer
-    ensures { read_bar result ≡ length_answer words.now default pickup bar }
+pub fn bar_len(words: &[u32], default: u32, pickup: Option<Beat>, bar: u32) -> Result<Beat, Refusal>
+    ensures { read result ≡ length_answer words.now default pickup bar }
 {
-    if words.len() % 3 != 0 {
-        return BarAnswer::Uneven;
-    }
-    if words.len() > MOST_WORDS {
-        return BarAnswer::TooLong;
-    }
-    if !pickup.is_sound() {
-        return BarAnswer::NotBeat;
-    }
-    BarAnswer::Beats(bars::length(words, default, pickup, bar))
+    Ok(tested(words, default, pickup)?.length(bar))
 }
 
 // The beat at which a bar starts.
-pub fn beat_at_bar(words: &[u32], default: u32, pickup: Pickup, bar: u32) -> BarAnswer
-    ensures { read_bar result ≡ start_answer words.now default pickup bar }
+pub fn beat_at_bar(
+    words: &[u32],
+    default: u32,
+    pickup: Option<Beat>,
+    bar: u32,
+) -> Result<Beat, Refusal>
+    ensures { read result ≡ start_answer words.now default pickup bar }
 {
-    if words.len() % 3 != 0 {
-        return BarAnswer::Uneven;
-    }
-    if words.len() > MOST_WORDS {
-        return BarAnswer::TooLong;
-    }
-    if !pickup.is_sound() {
-        return BarAnswer::NotBeat;
-    }
-    BarAnswer::Beats(bars::start(words, default, pickup, bar))
+    Ok(tested(words, default, pickup)?.start(bar))
 }
 
 // How many bars have gone by at a beat: for a score that fits, the first bar that starts at or
 // after it, or 4,294,967,295 where bar 2^31 still starts before it.
-pub fn bar_count_at_beat(words: &[u32], default: u32, pickup: Pickup, beat: Beat) -> CountAnswer
-    ensures { read_count result ≡ count_answer words.now default pickup beat }
+pub fn bar_count_at_beat(
+    words: &[u32],
+    default: u32,
+    pickup: Option<Beat>,
+    beat: Beat,
+) -> Result<u32, Refusal>
+    ensures { read result ≡ count_answer words.now default pickup beat }
 {
-    if words.len() % 3 != 0 {
-        return CountAnswer::Uneven;
-    }
-    if words.len() > MOST_WORDS {
-        return CountAnswer::TooLong;
-    }
-    if !pickup.is_sound() {
-        return CountAnswer::NotBeat;
-    }
+    let map = tested(words, default, pickup)?;
     if !beat.is_beat() {
-        return CountAnswer::NotBeat;
+        return Err(Refusal::NotBeat);
     }
-    CountAnswer::Bars(count::elapsed(words, default, pickup, beat))
+    Ok(map.elapsed(beat))
 }

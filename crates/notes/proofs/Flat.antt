@@ -1,9 +1,5 @@
 -- Notes and their words: reading what was written gives the notes, and writing what was read gives the words, of whole notes.
-use mathlib.Core.List.{List, [], ◌∷◌, ◌++◌}
-use mathlib.Core.Path.{◌≡◌, refl, ap}
-use Prim.Native.Nat.{ℕ, ◌*◌, ◌/◌, ◌%◌}
-use native.Mathlib.Omega.{arith}
-use lib.ListN.{length}
+use Rattle.std.proofs.Common.{List, [], ◌∷◌, ◌++◌, ◌≡◌, refl, ap, ℕ, ◌*◌, ◌/◌, ◌%◌, arith, length}
 use Rattle.notes.specs.declared.Note.{Note}
 use Rattle.notes.specs.Notes.{notes_of, words_of, note_words}
 

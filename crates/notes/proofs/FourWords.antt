@@ -1,10 +1,7 @@
 -- Laws on lists of words that several proofs cite.
-use mathlib.Core.List.{List, [], ◌∷◌, ◌++◌, append_assoc}
-use mathlib.Core.Path.{◌≡◌, ◌∙◌}
-use Prim.Native.Nat.{ℕ, ◌+◌, ◌≤◌}
-use native.Mathlib.Numerals.{add-one, add-two, add-three}
-use lib.ListN.{length, take, drop, set}
-use lib.Seq.{sets-eq}
+use Rattle.std.proofs.Common.{List, [], ◌∷◌, ◌++◌, append_assoc, ◌≡◌, ◌∙◌, ℕ, ◌+◌, ◌≤◌, add-one, length, take, drop, set}
+use Rattle.std.proofs.Math.Numerals.{add-two, add-three}
+use Rattle.std.proofs.Math.Seq.{sets-eq}
 
 -- four stores in a row
 pub put_four : (l : List ℕ) (i : ℕ) → i + 4 ≤ length l → (a b c d : ℕ)

@@ -2,6 +2,8 @@
 
 -- notes and their words
 pub use Rattle.notes.proofs.Flat.{length_notes, length_words, words_append, notes_words, words_notes, notes_append}
+-- words four by four
+pub use Rattle.notes.proofs.Chunks.{notes_chunks, next_note, no_note}
 -- a loop that writes words into a lent slice from its front
 pub use Rattle.notes.proofs.Writing.{Writing, begin, begin_by, more_note, skip, move, finish}
 -- the rest of an output, lent from its middle
@@ -11,4 +13,4 @@ pub use Rattle.notes.proofs.Stable.{promised}
 -- sorted words
 pub use Rattle.notes.proofs.Sorted.{sorted, length_sort, length_sorted, sort_front}
 -- counts of words that are not refused
-pub use Rattle.notes.proofs.Whole.{One, one, one_refuses, Two, two, two_refuses}
+pub use Rattle.notes.proofs.Whole.{One, one, Two, two, of_one, of_two}

@@ -1,3 +1,4 @@
+pub mod Chunks
 pub mod FourWords
 pub mod Flat
 pub mod Writing

@@ -1,7 +1,5 @@
 -- A note can be told from its words, so no two notes stand at one place.
-use mathlib.Core.Path.{◌≡◌, sym, ap, ◌∙◌}
-use mathlib.Core.List.{List, [], ◌∷◌, ◌++◌}
-use Prim.Native.Nat.{ℕ}
+use Rattle.std.proofs.Common.{◌≡◌, sym, ap, ◌∙◌, List, [], ◌∷◌, ◌++◌, ℕ}
 use Rattle.notes.specs.declared.Note.{Note}
 use Rattle.notes.specs.Notes.{note_words}
 

@@ -3,12 +3,15 @@
 #![tactic(auto)]
 
 ghost use Rattle.std.specs.Prelude.{◌≡◌};
-ghost use Rattle.notes.specs.Notes.{placed, refusal_of_one, refusal_of_two};
+ghost use Rattle.numbers.specs.Refusals.{read};
+ghost use Rattle.notes.specs.Notes.{placed, note_of, note_words, refusal_of, passed_by};
+
+use numbers::Refusal;
 
 pub mod sorting;
 pub mod words;
 
-#[derive(Clone, Copy)]
+#[derive(Clone, Copy, Debug, PartialEq, Eq)]
 pub struct Note {
     pub step: u32,
     pub len: u32,
@@ -21,44 +24,38 @@ impl Note {
     pub fn at(self, step: u32) -> Note
         ensures { result ≡ placed step self }
     {
+        Note { step, ..self }
+    }
+}
+
+impl From<[u32; 4]> for Note {
+    ghost use Rattle.std.specs.Prelude.{◌≡◌};
+    ghost use Rattle.notes.specs.Notes.{note_of};
+
+    ghost from_gives = { λ words n. n ≡ note_of words };
+
+    fn from(words: [u32; 4]) -> Note {
         Note {
-            step,
-            len: self.len,
-            gain: self.gain,
-            tag: self.tag,
+            step: words[0],
+            len: words[1],
+            gain: words[2],
+            tag: words[3],
         }
     }
 }
 
-// The number that refuses so many note words, or 0: 3 where they are not four a note, 4 where they
-// are over 4,096 notes.
-pub fn refusal_of_one(words: usize) -> u32
-    ensures { result ≡ refusal_of_one words }
+// Refuses lists of so many note words each: first those that are not four a note, then those over
+// 4,096 notes.
+pub fn tested(counts: &[usize]) -> Result<(), Refusal>
+    ensures { read result ≡ passed_by (refusal_of counts.now) }
 {
-    if words % 4 != 0 {
-        return 3;
+    let uneven = counts.iter().any(|words| words % 4 != 0);
+    let long = counts.iter().any(|words| *words > 16_384);
+    if uneven {
+        return Err(Refusal::Uneven);
     }
-    if words > 16_384 {
-        return 4;
+    if long {
+        return Err(Refusal::TooLong);
     }
-    0
-}
-
-// The number that refuses two lists of so many note words, or 0: 3 of either goes before 4.
-pub fn refusal_of_two(a: usize, b: usize) -> u32
-    ensures { result ≡ refusal_of_two a b }
-{
-    if a % 4 != 0 {
-        return 3;
-    }
-    if b % 4 != 0 {
-        return 3;
-    }
-    if a > 16_384 {
-        return 4;
-    }
-    if b > 16_384 {
-        return 4;
-    }
-    0
+    Ok(())
 }

@@ -1,9 +1,16 @@
-// The words of notes. Words become a note, and a note its words, in the first two functions alone;
-// the third moves words without reading them.
-ghost use Rattle.std.specs.Prelude.{◌≡◌, ◌++◌, ◌+◌, ◌≤◌, length, take, drop};
-ghost use Rattle.notes.specs.Notes.{note_words};
+// The words of notes: read note by note, written, and moved without reading them.
+ghost use Rattle.std.specs.Prelude.{◌≡◌, ◌++◌, ◌+◌, ◌/◌, ◌≤◌, length, take, drop, map};
+ghost use Rattle.notes.specs.Notes.{note_of, note_words, notes_of};
 
 use crate::Note;
+
+// The words of each note; those behind the last whole note are none.
+pub fn each(words: &[u32]) -> &[[u32; 4]]
+    ensures notes { map note_of result.now ≡ notes_of words.now }
+    ensures len { length result.now ≡ length words.now / 4 }
+{
+    words.as_chunks().0
+}
 
 // The note whose first word is words[i].
 pub fn note_at(words: &[u32], i: usize) -> Note
@@ -34,9 +41,5 @@ pub fn copy(words: &[u32], out: &mut [u32])
     requires { length words.now ≤ length out.old }
     ensures { out.new ≡ words.now ++ drop (length words.now) out.old }
 {
-    let mut i = 0;
-    while i < words.len() {
-        out[i] = words[i];
-        i += 1;
-    }
+    out[..words.len()].copy_from_slice(words);
 }

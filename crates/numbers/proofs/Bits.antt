@@ -1,42 +1,25 @@
--- Two's complement at 64 bits, from a sign and a size and back to them: the bits of a number are the number's, and the number of bits has those bits. Assumes nothing.
-use mathlib.Core.Path.{◌≡◌, refl, sym, ap, ◌∙◌}
+-- Two's complement at 64 bits, and back: the bits of a number are the number's, and the number of bits has those bits. Assumes nothing.
+use Rattle.std.proofs.Common.{suc, w64, of_z, to_z}
+use mathlib.Core.Path.{◌≡◌, refl, ap}
 use mathlib.Core.Bool.{Bool, true, false, cond}
-use Prim.Native.Nat.{ℕ, ◌+◌, ◌-◌, ◌^◌, ◌<◌, ◌≤◌}
-use native.Mathlib.Numerals.{add-one}
+use Prim.Native.Nat.{ℕ, ◌-◌, ◌^◌, ◌<◌, ◌≤◌}
 use native.Mathlib.Omega.{arith}
 use borrow.Author.Tests.{lt-ltb, le-ltb, leb-true}
 use lib.Dec.{leb, ltb}
-use lib.IntN.{ℤ, pos, negsuc, nat_abs}
-use Rattle.numbers.specs.Signs.{is_neg, with_sign, fits_i64, to_i64}
+use lib.IntN.{ℤ, pos, negsuc}
+use Rattle.numbers.specs.Signs.{fits_i64}
 use Rattle.numbers.specs.Bits.{signed_of, bits_of}
-use Rattle.numbers.proofs.Flags.{never, and_left}
+use Rattle.numbers.proofs.Flags.{and_left}
 
--- the number of bits below 2 ^ 63 is those bits
-pub signed_low : (n : ℕ) → n < 9223372036854775808 → to_i64 (with_sign false n) ≡ signed_of n
-unfolding signed_of
-signed_low n h = rw (lt-ltb n 9223372036854775808 h) (ap pos (omega arith))
-
--- of other bits it is what they lack to 2 ^ 64, below zero
-pub signed_high : (n : ℕ) → 9223372036854775808 ≤ n → to_i64 (with_sign true (18446744073709551615 - n + 1)) ≡ signed_of n
-unfolding signed_of
-signed_high n h =
-    rw (le-ltb n 9223372036854775808 h)
-    (ap (λ (k : ℕ). to_i64 (with_sign true k)) (add-one (18446744073709551615 - n)) ∙ ap negsuc (omega arith))
-
--- a number below zero has a size, and its bits are what the size lacks to 2 ^ 64; the bits of another are its size
-pub size_below : (x : ℤ) → is_neg x ≡ true → 1 ≤ nat_abs x
-size_below (pos n) t = never t
-size_below (negsuc n) t = omega arith
-
-pub bits_below : (x : ℤ) → is_neg x ≡ true → 18446744073709551615 - (nat_abs x - 1) ≡ bits_of x
+-- the machine's own bits of a number, and its number of bits, are those
+pub machine_bits : (x : ℤ) → of_z w64 x ≡ bits_of x
 unfolding bits_of
-bits_below (pos n) t = never t
-bits_below (negsuc n) t = omega arith
+machine_bits (pos n) = refl
+machine_bits (negsuc n) = omega arith
 
-pub bits_above : (x : ℤ) → is_neg x ≡ false → nat_abs x ≡ bits_of x
-unfolding bits_of
-bits_above (pos n) t = refl
-bits_above (negsuc n) t = never (sym t)
+pub machine_signed : (n : ℕ) → to_z w64 n ≡ signed_of n
+unfolding signed_of
+machine_signed n = let e : 2 ^ 64 - suc n ≡ 18446744073709551615 - n = omega arith in ap (λ (m : ℕ). cond (ltb n 9223372036854775808) (pos n) (negsuc m)) e
 
 -- ---- there and back
 

@@ -1,6 +1,7 @@
 -- What crates above may use of this one: they unfold none of its definitions.
 
 -- a contract that is an equation has one answer
+pub use Rattle.numbers.proofs.Refusals.{results_apart}
 pub use Rattle.numbers.proofs.Answers.{one_answer, Apart, one_reading, apart_by, case_of, apart_cases}
 -- a table of questions and answers
 pub use Rattle.numbers.specs.Answers.{Agree}
@@ -23,7 +24,7 @@ pub use Rattle.numbers.proofs.Parts.{up, down, eq_parts, lt_parts, parts_lt, sum
 pub use Rattle.numbers.proofs.Parts.{not_negative, natural, grows}
 pub use Rattle.numbers.proofs.Parts.{minus_times, times_times, sum_times, gap_times, swapped, swapped_signed, times_cancel, lt_trans, sums_apart}
 -- the order of two numbers
-pub use Rattle.numbers.proofs.Orders.{is_less, less_is, equal_only, same_equal, turned, exchanged, order_minus, order_times}
+pub use Rattle.numbers.proofs.Orders.{less_is, equal_only, same_equal, turned, exchanged, order_minus, order_times}
 -- by the order of two numbers; products
 pub use Rattle.numbers.proofs.Words.{by_order, ltb_same, product_fits, factor_zero, one_more}
 -- lists by their entries, and written into lent ones

@@ -1,4 +1,5 @@
 pub mod Answers
+pub mod Refusals
 pub mod Flags
 pub mod Signs
 pub mod Bits

@@ -8,8 +8,9 @@ use lib.Dec.{ltb, leb-suc-suc}
 use lib.IntN.{ℤ, pos, negsuc, neg_ℤ, ◌-ℤ◌, ◌*ℤ◌}
 use lib.Signed.{lt_z}
 use borrow.Author.Tests.{lt-ltb, le-ltb}
-use Rattle.numbers.specs.declared.exact.Order.{Order}
-use Rattle.numbers.specs.declared.exact.Order.TheVariants.{Less, Equal, Greater}
+use Rattle.std.specs.declared.cmp.Ordering.{Ordering}
+use Rattle.std.specs.Ordering.{is_lt}
+use Rattle.std.specs.declared.cmp.Ordering.TheVariants.{Less, Equal, Greater}
 use Rattle.numbers.specs.Signs.{is_neg, with_sign}
 use Rattle.numbers.specs.Exacts.{order_of}
 use Rattle.numbers.proofs.Flags.{never}
@@ -28,19 +29,14 @@ below_iff (negsuc a) (pos zero) = sub_sign (ltb 0 (suc a)) (suc a - 1) (0 - suc 
 below_iff (negsuc a) (pos (suc b)) = refl
 below_iff (negsuc a) (negsuc b) = sub_sign (ltb (suc b) (suc a)) (suc a - suc (suc b)) (suc b - suc a) ∙ leb-suc-suc (suc b) a
 
--- whether an order is Less
-abbrev pub is_less : Order → Bool
-is_less Less = true
-is_less Equal = false
-is_less Greater = false
-
-order_sign : (z : ℤ) → is_less (order_of z) ≡ is_neg z
+-- Less is what the sign says
+order_sign : (z : ℤ) → is_lt (order_of z) ≡ is_neg z
 order_sign (pos zero) = refl
 order_sign (pos (suc n)) = refl
 order_sign (negsuc n) = refl
 
 -- Less is what the numbers' own order says
-pub less_is : (x y : ℤ) → is_less (order_of (x -ℤ y)) ≡ lt_z x y
+pub less_is : (x y : ℤ) → is_lt (order_of (x -ℤ y)) ≡ lt_z x y
 less_is x y = order_sign (x -ℤ y) ∙ below_iff x y
 
 -- ---- equal, and the other way round
@@ -62,7 +58,7 @@ pub same_equal : (x : ℤ) → order_of (x -ℤ x) ≡ Equal
 same_equal x = ap order_of (eq_parts (x -ℤ x) (pos 0) (omega (arith, gap_parts x x)))
 
 -- the order of the same two, exchanged
-abbrev pub turned : Order → Order
+abbrev pub turned : Ordering → Ordering
 turned Less = Greater
 turned Equal = Equal
 turned Greater = Less
@@ -110,23 +106,23 @@ signs_apart (negsuc a) (negsuc b) e = never (sym e)
 -- ---- by two tests
 
 module _ (x y : ℤ) where
-  less_only : (o : Order) → is_less o ≡ true → Less ≡ o
+  less_only : (o : Ordering) → is_lt o ≡ true → Less ≡ o
   less_only Less e = refl
   less_only Equal e = cc
   less_only Greater e = cc
 
-  greater_only : (o : Order) → is_less (turned o) ≡ true → Greater ≡ o
+  greater_only : (o : Ordering) → is_lt (turned o) ≡ true → Greater ≡ o
   greater_only Less e = cc
   greater_only Equal e = cc
   greater_only Greater e = refl
 
-  equal_else : (o : Order) → is_less o ≡ false → is_less (turned o) ≡ false → Equal ≡ o
+  equal_else : (o : Ordering) → is_lt o ≡ false → is_lt (turned o) ≡ false → Equal ≡ o
   equal_else Less e f = cc
   equal_else Equal e f = refl
   equal_else Greater e f = cc
 
-  back : (t : Bool) → lt_z y x ≡ t → is_less (turned (order_of (x -ℤ y))) ≡ t
-  back t e = ap is_less (sym (exchanged x y)) ∙ less_is y x ∙ e
+  back : (t : Bool) → lt_z y x ≡ t → is_lt (turned (order_of (x -ℤ y))) ≡ t
+  back t e = ap is_lt (sym (exchanged x y)) ∙ less_is y x ∙ e
 
   pub is_less_lem : lt_z x y ≡ true → Less ≡ order_of (x -ℤ y)
   is_less_lem e = less_only (order_of (x -ℤ y)) (less_is x y ∙ e)

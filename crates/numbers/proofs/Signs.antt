@@ -1,9 +1,9 @@
 -- Laws of signs and magnitudes, and of what the machine reads back from a signed number's bits. Assumes nothing.
 use mathlib.Core.Path.{◌≡◌, refl, sym, ap, ◌∙◌}
 use mathlib.Core.Bool.{Bool, true, false, and-true}
-use Prim.Native.Nat.{ℕ, zero, suc, ◌+◌, ◌-◌, ◌<◌, ◌≤◌, ◌^◌, ◌/◌, min}
+use Prim.Native.Nat.{ℕ, zero, suc, ◌-◌, ◌<◌, ◌≤◌, ◌^◌, ◌/◌, min}
 use native.Mathlib.Omega.{arith}
-use lib.IntN.{ℤ, pos, negsuc, neg_ℤ, nat_abs, ◌-ℤ◌}
+use lib.IntN.{ℤ, pos, negsuc, neg_ℤ, ◌-ℤ◌}
 use lib.Dec.{leb, leb-suc-suc}
 use lib.Signed.{mag, lt_z, quot_z}
 use native.Mathlib.Nat.{div-le_self}
@@ -14,10 +14,7 @@ use mir.ValLaws.{to_z-of_z}
 use Rattle.numbers.specs.Signs.{is_neg, with_sign, fits_i64, to_i64, most_of}
 use Rattle.numbers.proofs.Flags.{and_left}
 
--- -1 - x turns -(n + 1) into n, and n into -(n + 1)
-pub flip_neg : (n : ℕ) → negsuc 0 -ℤ negsuc n ≡ pos n
-flip_neg n = rw (le-ltb (suc n) 1 (omega arith)) (ap pos (omega arith))
-
+-- -1 - n
 pub flip_pos : (n : ℕ) → negsuc 0 -ℤ pos n ≡ negsuc n
 flip_pos zero = refl
 flip_pos (suc n) = ap negsuc (omega arith)
@@ -33,33 +30,6 @@ test x f = rw (to_z-of_z w64 x f) (below_zero x)
 -- what the machine reads back from the bits of n, and the number n of the bits n
 pub read_pos : (n : ℕ) → n < 2 ^ 63 → to_z w64 n ≡ pos n
 read_pos n h = to_z-of_z w64 (pos n) (record { sfits = h })
-
-flip : (x : ℤ) → is_neg x ≡ true → negsuc 0 -ℤ x ≡ pos (mag x)
-flip (pos n) t = cc
-flip (negsuc n) t = flip_neg n
-
--- of a number below zero: -1 - x, as the machine computes it
-module _ (x : ℤ) (f : SFits w64 x) (t : lt_z (to_z w64 (of_z w64 x)) (pos 0) ≡ true) where
-  pub flipped : negsuc 0 -ℤ to_z w64 (of_z w64 x) ≡ pos (mag x)
-  flipped = rw (to_z-of_z w64 x f) (flip x (sym (test x f) ∙ t))
-
-  pub flipped_read : to_z w64 (of_z w64 (negsuc 0 -ℤ to_z w64 (of_z w64 x))) ≡ pos (mag x)
-  flipped_read = ap (λ (z : ℤ). to_z w64 (of_z w64 z)) flipped ∙ read_pos (mag x) f.sfits
-
-neg_mag : (x : ℤ) → is_neg x ≡ true → nat_abs x ≡ mag x + 1
-neg_mag (pos n) t = cc
-neg_mag (negsuc n) t = omega arith
-
-pub neg_abs : (x : ℤ) (f : SFits w64 x) → lt_z (to_z w64 (of_z w64 x)) (pos 0) ≡ true → nat_abs x ≡ mag x + 1
-neg_abs x f t = neg_mag x (sym (test x f) ∙ t)
-
-not_neg : (x : ℤ) → is_neg x ≡ false → x ≡ pos (mag x)
-not_neg (pos n) t = refl
-not_neg (negsuc n) t = cc
-
--- of a number that is not below zero
-pub pos_read : (x : ℤ) (f : SFits w64 x) → lt_z (to_z w64 (of_z w64 x)) (pos 0) ≡ false → to_z w64 (of_z w64 x) ≡ pos (mag x)
-pos_read x f t = to_z-of_z w64 x f ∙ not_neg x (sym (test x f) ∙ t)
 
 -- ---- from a sign and a size to the number
 

@@ -2,8 +2,8 @@
 use Rattle.std.specs.Prelude.{ℕ, zero, suc, ◌+◌, ◌*◌, ◌/◌, ◌%◌, ◌^◌, ℤ, pos, negsuc, nat_abs}
 use Rattle.numbers.specs.declared.exact.Wide.{Wide}
 use Rattle.numbers.specs.declared.exact.Exact.{Exact}
-use Rattle.numbers.specs.declared.exact.Order.{Order}
-use Rattle.numbers.specs.declared.exact.Order.TheVariants.{Less, Equal, Greater}
+use Rattle.std.specs.declared.cmp.Ordering.{Ordering}
+use Rattle.std.specs.declared.cmp.Ordering.TheVariants.{Less, Equal, Greater}
 use Rattle.numbers.specs.Signs.{is_neg, with_sign}
 
 -- the number that two words are
@@ -23,7 +23,7 @@ unfoldable pub exact_of : ℤ → Exact
 exact_of z = record { neg = is_neg z; size = wide_of (nat_abs z) }
 
 -- where a number stands to 0
-abbrev pub order_of : ℤ → Order
+abbrev pub order_of : ℤ → Ordering
 order_of (negsuc n) = Less
 order_of (pos zero) = Equal
 order_of (pos (suc n)) = Greater

@@ -1,4 +1,5 @@
 pub mod Answers
+pub mod Refusals
 pub mod Signs
 pub mod Bits
 pub mod Divisor

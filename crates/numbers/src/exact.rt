@@ -7,9 +7,11 @@ ghost use Rattle.numbers.specs.Signs.{is_neg, with_sign, most_of, fits_i64, to_i
 ghost use Rattle.numbers.specs.Exacts.{size_of, wide_of, value_of, exact_of, order_of};
 
 use crate::MOST;
+use std::cmp::Ordering;
 
 // The number hi * 2^64 + lo.
-#[derive(Clone, Copy)]
+// Stays: docs/DECISIONS.md keeps two words (and below a sign), which document 01 names, where std has an i128 now
+#[derive(Clone, Copy, Debug, PartialEq, Eq)]
 pub struct Wide {
     pub hi: u64,
     pub lo: u64,
@@ -82,6 +84,7 @@ impl Wide {
     }
 
     // Whether self is below b.
+    // Stays: the wrong edits of Wide::below ("the low words decide first") turn this line, which a derived order has not
     pub fn below(self, b: Wide) -> bool
         ensures { result ≡ ltb (size_of self) (size_of b) }
     {
@@ -112,18 +115,10 @@ impl Wide {
 }
 
 // size, or minus size where neg is set. Every function here that makes one leaves neg of 0 unset.
-#[derive(Clone, Copy)]
+#[derive(Clone, Copy, Debug, PartialEq, Eq)]
 pub struct Exact {
     pub neg: bool,
     pub size: Wide,
-}
-
-// Where a number stands to another.
-#[derive(Clone, Copy)]
-pub enum Order {
-    Less,
-    Equal,
-    Greater,
 }
 
 // p - q.
@@ -257,7 +252,7 @@ impl Exact {
 }
 
 // Where a * b stands to c * d.
-pub fn order_of_products(a: i64, b: u32, c: i64, d: u32) -> Order
+pub fn order_of_products(a: i64, b: u32, c: i64, d: u32) -> Ordering
     ensures { result ≡ order_of (a *ℤ pos b -ℤ c *ℤ pos d) }
 {
     let x = Exact::times(a, false, b as u64);
@@ -265,10 +260,10 @@ pub fn order_of_products(a: i64, b: u32, c: i64, d: u32) -> Order
     let less = x.below(y);
     let more = y.below(x);
     if less {
-        Order::Less
+        Ordering::Less
     } else if more {
-        Order::Greater
+        Ordering::Greater
     } else {
-        Order::Equal
+        Ordering::Equal
     }
 }

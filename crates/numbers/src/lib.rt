@@ -10,6 +10,9 @@ ghost use Rattle.numbers.specs.Divisor.{gcd_of};
 use crate::exact::Wide;
 
 pub mod exact;
+pub mod refusal;
+
+pub use refusal::{Miss, Part, Refusal};
 
 const MOST: u64 = 0xffff_ffff_ffff_ffff;
 
@@ -26,7 +29,7 @@ pub fn negative(x: i64) -> bool
 pub fn magnitude(x: i64) -> u64
     ensures { result ≡ nat_abs x }
 {
-    if x < 0 { (-1 - x) as u64 + 1 } else { x as u64 }
+    x.unsigned_abs()
 }
 
 // The number with this sign and this size, stopped at the ends of an i64.
@@ -48,49 +51,42 @@ pub fn signed(neg: bool, size: u64) -> i64
 pub fn as_signed(bits: u64) -> i64
     ensures { result ≡ signed_of bits }
 {
-    if bits < 0x8000_0000_0000_0000 {
-        signed(false, bits)
-    } else {
-        signed(true, MOST - bits + 1)
-    }
+    bits.cast_signed()
 }
 
 // The 64 bits that a number is in two's complement.
 pub fn as_bits(x: i64) -> u64
     ensures { result ≡ bits_of x }
 {
-    if negative(x) {
-        MOST - (magnitude(x) - 1)
-    } else {
-        magnitude(x)
-    }
+    x.cast_unsigned()
 }
 
 // The smaller of two numbers.
 pub fn smaller(a: u64, b: u64) -> u64
     ensures { result ≡ min a b }
 {
-    if a < b { a } else { b }
+    a.min(b)
 }
 
 // The larger of two numbers.
 pub fn larger(a: u32, b: u32) -> u32
     ensures { result ≡ max a b }
 {
-    if a < b { b } else { a }
+    a.max(b)
 }
 
 // a + b, or 2^64 - 1 where that is less.
 pub fn saturating_add(a: u64, b: u64) -> u64
     ensures { result ≡ min (a + b) (2 ^ 64 - 1) }
 {
-    if a > MOST - b { MOST } else { a + b }
+    a.saturating_add(b)
 }
 
 // a * b, or 2^64 - 1 where that is less.
 pub fn saturating_mul(a: u64, b: u64) -> u64
     ensures { result ≡ min (a * b) (2 ^ 64 - 1) }
 {
+    // Stays: std's saturating_mul is no plainer here, and it divides, which these two words do not
     Wide::product(a, b).or_most()
 }
 
@@ -98,7 +94,7 @@ pub fn saturating_mul(a: u64, b: u64) -> u64
 pub fn to_u32(n: u64) -> u32
     ensures { result ≡ min n (2 ^ 32 - 1) }
 {
-    smaller(n, 0xffff_ffff) as u32
+    u32::try_from(n).unwrap_or(u32::MAX)
 }
 
 // The greatest common divisor, by recursion on the remainder. A remainder of 1 ends it early: no

@@ -1,9 +1,6 @@
 -- How many notes two lists make, one behind the other.
-use mathlib.Core.List.{List, ◌++◌}
-use mathlib.Core.Path.{◌≡◌}
-use Prim.Native.Nat.{ℕ, ◌+◌, ◌*◌}
-use native.Mathlib.Omega.{arith}
-use lib.ListN.{length, length-append, length-map}
+use Rattle.std.proofs.Common.{List, ◌++◌, ◌≡◌, ℕ, ◌+◌, ◌*◌, arith, length, length-append}
+use Rattle.std.proofs.Math.ListN.{length-map}
 use Rattle.notes.specs.Notes.{notes_of}
 use Rattle.notes.proofs.Laws.{Two, length_notes}
 use Rattle.rhythm.specs.Joins.{joined}

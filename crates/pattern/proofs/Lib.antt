@@ -1,4 +1,5 @@
 pub mod Outcomes
+pub mod Sorting
 pub mod Joined
 pub mod Ratio
 pub mod Pulses

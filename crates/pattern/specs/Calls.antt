@@ -5,8 +5,7 @@ use Rattle.numbers.specs.Answers.{Answer, accepted, refused}
 use Rattle.notes.specs.declared.Note.{Note}
 use Rattle.notes.specs.Notes.{notes_of}
 use Rattle.notes.specs.Sorting.{sort_by_step}
-use Rattle.rhythm.specs.declared.changing.Change.{Change}
-use Rattle.rhythm.specs.Changes.{rotated, mirrored, snapped, scaled, gated, changed}
+use Rattle.rhythm.specs.Changes.{rotated, mirrored, snapped, scaled, gated}
 use Rattle.rhythm.specs.Cuts.{window, grid_of, stretched}
 use Rattle.rhythm.specs.Joins.{copies_from, joined}
 use Rattle.rhythm.specs.Makes.{hit, hits_from, tuplet_step}
@@ -79,13 +78,6 @@ vel_of p words scale = mapped (scaled scale) p words
 -- each len times factor
 abbrev pub gate_of : Pattern → List ℕ → Float → Answer Phrase
 gate_of p words factor = mapped (gated factor) p words
-
--- what the copier does, as these calls use it
-abbrev pub each_of : Change → Pattern → List ℕ → Answer Phrase
-each_of how = mapped (changed how)
-
-abbrev pub each_sorted_of : Change → Pattern → List ℕ → Answer Phrase
-each_sorted_of how = mapped_sorted (changed how)
 
 -- ---- patterns made from numbers
 

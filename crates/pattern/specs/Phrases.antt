@@ -4,6 +4,7 @@ use Rattle.numbers.specs.Answers.{Answer, accepted, refused, given, over}
 use Rattle.notes.specs.declared.Note.{Note}
 use Rattle.notes.specs.Notes.{words_of, refusal_of_one, refusal_of_two}
 use Rattle.pattern.specs.declared.Pattern.{Pattern}
+use Rattle.pattern.specs.declared.Wrote.{Wrote}
 
 -- notes, and the pattern that they make
 pub record Phrase : Type 0 where
@@ -12,11 +13,6 @@ pub record Phrase : Type 0 where
 
 abbrev pub phrase : List Note → ℕ → Phrase
 phrase notes bars = record { notes = notes; pattern = record { bars = bars } }
-
--- what an accepted call answers: the notes written, and their pattern
-pub record Wrote : Type 0 where
-  pub notes : ℕ
-  pub pattern : Pattern
 
 abbrev pub wrote_of : ℕ → ℕ → Wrote
 wrote_of notes bars = record { notes = notes; pattern = record { bars = bars } }

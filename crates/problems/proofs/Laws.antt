@@ -2,5 +2,5 @@
 
 -- a meter map has no problems exactly where it is sound
 pub use Rattle.problems.proofs.Sound.{no_problems_sound, sound_no_problems}
--- no two cases of the answer read alike, and a call has one answer and one output
-pub use Rattle.problems.proofs.Readings.{problems_apart, one_outcome}
+-- a call has one answer and one output
+pub use Rattle.problems.proofs.Readings.{one_outcome}

@@ -1,10 +1,11 @@
+pub mod Adding
 pub mod Calls
 pub mod Laws
 pub mod Listing
+pub mod Metering
 pub mod Passing
 pub mod Points
 pub mod Readings
 pub mod Sound
 pub mod Tempos
-pub mod Walking
 pub mod Wholes

@@ -1,4 +1,4 @@
 pub mod Problems
 pub mod Answers
-pub mod Readings
 pub mod Passes
+pub mod Records

@@ -1,10 +1,8 @@
--- What the functions below the calls do, for their contracts and the laws that join them: a pass over a map, which counts its records or writes them too, and the walk that passes over the points of a meter map twice. The calls promise the problems of `Problems`; that the passes give these is proved (proofs/Wholes).
-use Rattle.std.specs.Prelude.{Bool, true, false, not, cond, ◌&&◌, ◌≡◌, List, [], ◌∷◌, ◌++◌, ℕ, suc, ◌+◌, ◌*◌, ◌/◌, ◌≤◌, ◌<◌, leb, ltb, eqb, ℤ, pos, length, get_or}
+-- What the functions below the calls do, for their contracts and the laws that join them: a pass over a map, which counts its records or writes them too. The calls promise the problems of `Problems`; that the passes give these is proved (proofs/Wholes).
+use Rattle.std.specs.Prelude.{Bool, true, cond, ◌≡◌, List, [], ◌∷◌, ◌++◌, ℕ, suc, ◌+◌, ◌*◌, ◌≤◌, eqb, ℤ, pos, length, get_or}
 use Rattle.std.proofs.lemmas.List.Edits.{sets}
-use Rattle.numbers.specs.Answers.{Answer, accepted, refused}
 use Rattle.beats.specs.declared.Beat.{Beat}
 use Rattle.meter.specs.declared.MeterPoint.{MeterPoint}
-use Rattle.problems.specs.declared.walk.State.{State}
 use Rattle.problems.specs.Problems.{Problem, Listed, flat, many_meters, later_bar, meter_point, many_tempos, later_beat, tempo_bits, not_above}
 
 -- ---- a part of a pass, from a count of records on
@@ -63,37 +61,3 @@ records_at n index low point = meter_head n index point.bar ++ meter_point index
 unfoldable pub meter_from : ℕ → ℕ → ℕ → List MeterPoint → List Problem
 meter_from n index low [] = []
 meter_from n index low (point ∷ rest) = records_at n index low point ++ meter_from n (suc index) (suc point.bar) rest
-
--- ---- the walk over meter points
-
--- the first pass counts; no point is walked where there are too many
-abbrev pub begun : ℕ → ℕ → State
-begun n words = record { n = n; room = words / 3; at = cond (leb n 65536) 0 n; writing = false; low = 0; count = 0 }
-
--- the first pass ends, with records that there is room for
-abbrev pub restarts : State → ℕ → Bool
-restarts s count = eqb (s.at + 1) s.n && (not s.writing && (ltb 0 count && leb count s.room))
-
--- the state behind a point: where the walk restarts, the second pass begins
-abbrev pub turned : State → ℕ → ℕ → State
-turned s count bar =
-    cond (restarts s count)
-    (record { n = s.n; room = s.room; at = 0; writing = true; low = 0; count = 0 })
-    (record { n = s.n; room = s.room; at = s.at + 1; writing = s.writing; low = bar + 1; count = count })
-
--- the records of the point that the walk stands at
-abbrev pub here : State → MeterPoint → List Problem
-here s point = records_at s.n s.at s.low point
-
-abbrev pub stepped : State → MeterPoint → State
-stepped s point = turned s (s.count + length (here s point)) point.bar
-
--- a point may be walked
-pub record Walks (out : List ℕ) (s : State) (point : MeterPoint) : Type 0 where
-  pub inside : s.at < s.n
-  pub short : s.n ≤ 65536
-  pub ready : Ready s.writing out s.count (here s point)
-
--- the answer at the end
-abbrev pub finished : State → Answer ℕ
-finished s = cond (leb s.n 65536) (cond (leb s.count s.room) (accepted s.count) (refused 8 [])) (refused 4 [])

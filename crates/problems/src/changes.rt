@@ -1,15 +1,18 @@
 // The records of a tempo map.
-ghost use Rattle.std.specs.Prelude.{◌≡◌, ◌<◌, length};
+ghost use Rattle.std.specs.Prelude.{◌≡◌};
 ghost use Rattle.std.specs.Float.{binary32};
 ghost use Rattle.std.specs.Float.Ieee.{of_bits};
+ghost use Rattle.numbers.specs.Refusals.{read};
 ghost use Rattle.tempo.specs.Answers.{Walkable};
-ghost use Rattle.problems.specs.Problems.{sound_tempo, tempo_bits, is_zero, listed, tempo_problems};
+ghost use Rattle.problems.specs.Problems.{sound_tempo, tempo_bits, is_zero, tempo_problems};
 ghost use Rattle.problems.specs.Answers.{walkable_answer, walkable_after};
-ghost use Rattle.problems.specs.Readings.{read_problems};
-ghost use Rattle.problems.specs.Passes.{Ready, Passed, listed_at, beat_at, tempo_first, tempo_later, tempo_at};
+ghost use Rattle.problems.specs.Passes.{Ready, Passed, listed_at, tempo_first, tempo_later, tempo_at};
+ghost use Rattle.problems.specs.Records.{IsReady, Adds, listed_in};
 
-use crate::{ProblemsAnswer, records};
+use crate::records::{Code, Records};
 use beats::{Beat, sums};
+use numbers::Refusal;
+use tempo::TempoMap;
 
 // Whether the bits are those of a tempo that is finite and above 0.
 fn sound_tempo(bits: u32) -> bool
@@ -20,114 +23,88 @@ fn sound_tempo(bits: u32) -> bool
 }
 
 // The record of a tempo.
-fn own(out: &mut [u32], writing: bool, count: u32, index: u32, at: Beat, bits: u32) -> u32
-    requires { Ready writing out.old count (tempo_bits index (listed_at at bits)) }
-    ensures { Passed writing out.old count (tempo_bits index (listed_at at bits)) out.new result }
+fn own(records: &mut Records, index: u32, at: Beat, bits: u32)
+    requires { IsReady records.old (tempo_bits index (listed_at at bits)) }
+    ensures { Adds records.old (tempo_bits index (listed_at at bits)) records.new }
 {
-    let bad = !sound_tempo(bits);
-    records::note(out, writing, count, bad, 8, index, bits)
+    records.note(!sound_tempo(bits), Code::BadTempo, index, bits);
 }
 
 // Whether a beat is 0.
 fn is_zero(at: Beat) -> bool
     ensures { result ≡ is_zero at }
 {
-    numbers::magnitude(at.num) == 0
+    at.num == 0
 }
 
 // The records of the map and of its first point.
-fn first(out: &mut [u32], writing: bool, count: u32, n: u32, at: Beat, bits: u32) -> u32
-    requires { Ready writing out.old count (tempo_first n (listed_at at bits)) }
-    ensures { Passed writing out.old count (tempo_first n (listed_at at bits)) out.new result }
+fn first(records: &mut Records, n: u32, at: Beat, bits: u32)
+    requires { IsReady records.old (tempo_first n (listed_at at bits)) }
+    ensures { Adds records.old (tempo_first n (listed_at at bits)) records.new }
 {
-    let a = records::note(out, writing, count, 1024 < n, 6, 0, n);
-    let bad = !is_zero(at);
-    let b = records::note(out, writing, a, bad, 7, 0, 0);
-    own(out, writing, b, 0, at, bits)
+    records.note(1024 < n, Code::ManyTempos, 0, n);
+    records.note(!is_zero(at), Code::LaterBeat, 0, 0);
+    own(records, 0, at, bits);
 }
 
 // The records of a later point.
-fn later(
-    out: &mut [u32],
-    writing: bool,
-    count: u32,
-    index: u32,
-    before: Beat,
-    at: Beat,
-    bits: u32,
-) -> u32
-    requires { Ready writing out.old count (tempo_later index before (listed_at at bits)) }
-    ensures { Passed writing out.old count (tempo_later index before (listed_at at bits)) out.new result }
+fn later(records: &mut Records, index: u32, before: Beat, at: Beat, bits: u32)
+    requires { IsReady records.old (tempo_later index before (listed_at at bits)) }
+    ensures { Adds records.old (tempo_later index before (listed_at at bits)) records.new }
 {
-    let bad = !sums::below(before, at);
-    let a = own(out, writing, count, index, at, bits);
-    records::note(out, writing, a, bad, 9, index, 0)
+    own(records, index, at, bits);
+    records.note(!sums::below(before, at), Code::NotAbove, index, 0);
 }
 
 // The records at a point.
-fn point(
-    out: &mut [u32],
-    writing: bool,
-    count: u32,
-    n: u32,
-    index: u32,
-    before: Beat,
-    at: Beat,
-    bits: u32,
-) -> u32
-    requires { Ready writing out.old count (tempo_at n index before (listed_at at bits)) }
-    ensures { Passed writing out.old count (tempo_at n index before (listed_at at bits)) out.new result }
+fn point(records: &mut Records, n: u32, index: u32, before: Beat, at: Beat, bits: u32)
+    requires { IsReady records.old (tempo_at n index before (listed_at at bits)) }
+    ensures { Adds records.old (tempo_at n index before (listed_at at bits)) records.new }
 {
     if index == 0 {
-        first(out, writing, count, n, at, bits)
+        first(records, n, at, bits);
     } else {
-        later(out, writing, count, index, before, at, bits)
-    }
-}
-
-// The beat of a point.
-fn beat_at(nums: &[i64], dens: &[u32], i: usize) -> Beat
-    requires { (i < length nums.now) × (length dens.now ≡ length nums.now) }
-    ensures { result ≡ beat_at nums.now dens.now i }
-{
-    Beat {
-        num: nums[i],
-        den: dens[i],
+        later(records, index, before, at, bits);
     }
 }
 
 // A pass over the points: it counts the records, or writes them too.
-fn pass(nums: &[i64], dens: &[u32], tempos: &[u32], out: &mut [u32], writing: bool) -> u32
-    requires { Walkable nums.now dens.now tempos.now × Ready writing out.old 0 (tempo_problems (listed nums.now dens.now tempos.now)) }
-    ensures { Passed writing out.old 0 (tempo_problems (listed nums.now dens.now tempos.now)) out.new result }
+fn pass(map: &TempoMap, out: &mut [u32], writing: bool) -> u32
+    requires map { Walkable map.now.nums.now map.now.dens.now map.now.tempos.now }
+    requires ready { Ready writing out.old 0 (tempo_problems (listed_in map.now)) }
+    ensures { Passed writing out.old 0 (tempo_problems (listed_in map.now)) out.new result }
 {
-    let n = nums.len();
+    let mut records = Records {
+        out,
+        writing,
+        count: 0,
+    };
+    let n = map.len();
     let mut before = Beat::zero();
-    let mut count: u32 = 0;
-    let mut i = 0;
-    while i < n {
-        let at = beat_at(nums, dens, i);
-        count = point(
-            out, writing, count, n as u32, i as u32, before, at, tempos[i],
-        );
+    // Stays: no plainer by an iterator, since a turn reads three lists and its index.
+    for i in 0..n {
+        let at = map.beat(i);
+        point(&mut records, n as u32, i as u32, before, at, map.tempos[i]);
         before = at;
-        i += 1;
     }
-    count
+    records.count
 }
 
 // The problems of a map that can be walked: the records are counted, and where there are some, and
 // room for them, written.
-pub fn list(nums: &[i64], dens: &[u32], tempos: &[u32], out: &mut [u32]) -> ProblemsAnswer
-    requires { Walkable nums.now dens.now tempos.now }
-    ensures { (read_problems result ≡ walkable_answer nums.now dens.now tempos.now out.old) × (out.new ≡ walkable_after nums.now dens.now tempos.now out.old) }
+pub fn list(map: &TempoMap, out: &mut [u32]) -> Result<u32, Refusal>
+    requires { Walkable map.now.nums.now map.now.dens.now map.now.tempos.now }
+    ensures answer { read result ≡ walkable_answer map.now.nums.now map.now.dens.now map.now.tempos.now out.old }
+    ensures words { out.new ≡ walkable_after map.now.nums.now map.now.dens.now map.now.tempos.now out.old }
 {
-    let count = pass(nums, dens, tempos, out, false);
+    // Stays: the same questions as in `meter_map_problems`; a function over the pass is no plainer, as
+    // it takes a closure over the lent words and a ghost list of problems that each caller picks.
+    let count = pass(map, out, false);
     if count as usize > out.len() / 3 {
-        return ProblemsAnswer::NoRoom;
+        return Err(Refusal::NoRoom);
     }
     if count == 0 {
-        return ProblemsAnswer::Problems(0);
+        return Ok(0);
     }
-    ProblemsAnswer::Problems(pass(nums, dens, tempos, out, true))
+    Ok(pass(map, out, true))
 }

@@ -1,15 +1,13 @@
 -- The pulses of `euclidean`, one by one, are the steps that its definition picks. Before step i there are k pulses exactly where
 -- k * steps + pulses ≤ i * pulses + steps and i * pulses < k * steps + pulses; a step that is picked is the place of pulse k, and one that is not leaves k as it is.
 use Rattle.std.proofs.Common.{◌≡◌, ℕ, zero, suc, ◌+◌, ◌-◌, ◌*◌, ◌/◌, ◌%◌, ◌<◌, ◌≤◌, Bool, true, false, ltb, [], ◌∷◌, ◌++◌, sym, refl, ap, ◌∙◌, subst, zero-le, mod-lt, mod-eq_of_lt, suc-mul, mul_comm, lt_of_mul-lt-mul_right, mul-lt-mul_of_pos_right, div-add-mod', zero-mul, add-one, arith, ltb-false, ltb-true, le-ltb}
-use native.Mathlib.Nat.{div-eq_of_lt-le, sub-zero, add-mul-mod_self_right}
+use Rattle.std.proofs.Math.Nat.{div-eq_of_lt-le, sub-zero, add-mul-mod_self_right}
 use Rattle.numbers.proofs.Laws.{by_order}
 use Rattle.rounding.specs.Floats.{whole_above}
 use Rattle.notes.specs.declared.Note.{Note}
 use Rattle.notes.specs.Notes.{words_of, note_words}
-use Rattle.rhythm.specs.declared.making.Spread.TheVariants.{Pulses, Tuplet}
-use Rattle.rhythm.specs.declared.making.Spread.{Spread}
 use Rattle.numbers.specs.Lists.{entries}
-use Rattle.rhythm.specs.Makes.{hits_from, Within, Held}
+use Rattle.rhythm.specs.Makes.{hits_from}
 
 -- ---- rows of notes
 
@@ -23,10 +21,6 @@ row_turn note k count m h q =
 pub row_end : (note : ℕ → Note) (k count : ℕ) → count ≤ k → words_of (entries note k (count - k)) ≡ []
 unfolding entries words_of
 row_end note k count h = let e : count - k ≡ 0 = omega arith in rw e
-
-pub held_within : (how : Spread) (count k : ℕ) → Held how count → k < count → Within how k
-held_within (Pulses pulses steps) count k h l = (omega (arith, h.0), h.1)
-held_within (Tuplet total steps) count k h l = omega (arith, h)
 
 -- ---- the pulses
 

@@ -1,34 +1,29 @@
 -- The test of the grid: one note of the walk, and the bars before it.
-use Rattle.std.proofs.Common.{◌≡◌, ℕ, suc, ◌+◌, ◌*◌, ◌%◌, Bool, true, false, eqb, List, [], ◌∷◌, ◌++◌, refl, ap, ◌∙◌, add-one, eq-eqb, ne_eqb}
+use Rattle.std.proofs.Common.{◌≡◌, ℕ, suc, ◌+◌, ◌*◌, ◌%◌, Bool, true, false, eqb, List, [], ◌∷◌, refl, ap, ◌∙◌, add-one, eq-eqb, ne_eqb}
 use Rattle.notes.specs.declared.Note.{Note}
-use Rattle.notes.specs.Notes.{notes_of, note_words}
 use Rattle.rhythm.specs.Cuts.{note_grid, grid_of}
 
 -- ---- one note
 
-module _ (num den place : ℕ) (n : Note) (ws rest : List ℕ) (e : ws ≡ note_words n ++ rest) where
-  abbrev at : List ℕ → ℕ → List ℕ
-  at l k = note_grid num den k (notes_of l)
-
+module _ (num den place : ℕ) (n : Note) (rest : List Note) where
   tested : (b d : Bool) → eqb (n.step * num % den) 0 ≡ b → eqb (n.len * num % den) 0 ≡ d
-      → at ws place ≡ elim b [ true ↦ elim d [ true ↦ at rest (suc place) | false ↦ 2 ∷ place ∷ n.len ∷ [] ] | false ↦ 1 ∷ place ∷ n.step ∷ [] ]
-  unfolding notes_of note_grid
+      → note_grid num den place (n ∷ rest) ≡ elim b [ true ↦ elim d [ true ↦ note_grid num den (suc place) rest | false ↦ 2 ∷ place ∷ n.len ∷ [] ] | false ↦ 1 ∷ place ∷ n.step ∷ [] ]
+  unfolding note_grid
   tested b d p q =
-      ap (λ (l : List ℕ). at l place) e
-      ∙ (λ i. elim (p i) [ true ↦ elim (q i) [ true ↦ at rest (suc place) | false ↦ 2 ∷ place ∷ n.len ∷ [] ] | false ↦ 1 ∷ place ∷ n.step ∷ [] ])
+      λ i. elim (p i) [ true ↦ elim (q i) [ true ↦ note_grid num den (suc place) rest | false ↦ 2 ∷ place ∷ n.len ∷ [] ] | false ↦ 1 ∷ place ∷ n.step ∷ [] ]
 
-  pub step_off : (n.step * num % den ≡ 0 → ⊥) → at ws place ≡ 1 ∷ place ∷ n.step ∷ []
+  pub step_off : (n.step * num % den ≡ 0 → ⊥) → note_grid num den place (n ∷ rest) ≡ 1 ∷ place ∷ n.step ∷ []
   step_off h = tested false _ (ne_eqb _ _ h) refl
 
-  pub len_off : n.step * num % den ≡ 0 → (n.len * num % den ≡ 0 → ⊥) → at ws place ≡ 2 ∷ place ∷ n.len ∷ []
+  pub len_off : n.step * num % den ≡ 0 → (n.len * num % den ≡ 0 → ⊥) → note_grid num den place (n ∷ rest) ≡ 2 ∷ place ∷ n.len ∷ []
   len_off h g = tested true false (eq-eqb _ _ h) (ne_eqb _ _ g)
 
-  pub on : n.step * num % den ≡ 0 → n.len * num % den ≡ 0 → at ws place ≡ at rest (place + 1)
+  pub on : n.step * num % den ≡ 0 → n.len * num % den ≡ 0 → note_grid num den place (n ∷ rest) ≡ note_grid num den (place + 1) rest
   on h g = tested true true (eq-eqb _ _ h) (eq-eqb _ _ g) ∙ rw add-one
 
-pub all_on : (num den place : ℕ) (ws : List ℕ) → ws ≡ [] → note_grid num den place (notes_of ws) ≡ []
-unfolding notes_of note_grid
-all_on num den place ws e = ap (λ (l : List ℕ). note_grid num den place (notes_of l)) e
+pub all_on : (num den place : ℕ) → note_grid num den place [] ≡ []
+unfolding note_grid
+all_on num den place = refl
 
 -- ---- the bars
 

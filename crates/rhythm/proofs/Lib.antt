@@ -4,5 +4,4 @@ pub mod Windows
 pub mod Gridding
 pub mod Even
 pub mod Remainders
-pub mod Readings
 pub mod Laws

@@ -1,7 +1,7 @@
 -- Copies of a pattern, one behind another: what a turn of the loop writes, and what is left.
 use Rattle.std.proofs.Common.{◌≡◌, ℕ, zero, suc, ◌+◌, ◌-◌, ◌*◌, ◌%◌, ◌^◌, ◌<◌, ◌≤◌, min, List, [], ◌∷◌, ◌++◌, map, length, get_or, sym, refl, ap, ◌∙◌, mul_assoc, suc-mul, mul-zero, mul-suc, add-one, arith, length-append}
-use native.Mathlib.Nat.{sub-zero}
-use lib.ListN.{length-map}
+use Rattle.std.proofs.Math.Nat.{sub-zero}
+use Rattle.std.proofs.Math.ListN.{length-map}
 use Rattle.notes.specs.declared.Note.{Note}
 use Rattle.notes.specs.Notes.{notes_of, words_of}
 use Rattle.notes.proofs.Laws.{length_notes, length_words, words_append}

@@ -1,6 +1,6 @@
 -- The arithmetic of steps: products that fit, the remainder by the sign of the shift, and the two ways of writing the nearest whole number.
 use Rattle.std.proofs.Common.{◌≡◌, ℕ, zero, suc, ◌+◌, ◌-◌, ◌*◌, ◌/◌, ◌%◌, ◌<◌, ◌≤◌, true, false, pos, ◌+ℤ◌, refl, ap, mod-lt, div-add-mod', div-mul-le_self, arith, le-ltb, lt-ltb}
-use native.Mathlib.Nat.{lt-div-mul-add}
+use Rattle.std.proofs.Math.Nat.{lt-div-mul-add}
 use Rattle.numbers.specs.Signs.{with_sign}
 use Rattle.rounding.specs.Floats.{half_up}
 use Rattle.rounding.proofs.Laws.{Nearest, nearest, nearest_one}

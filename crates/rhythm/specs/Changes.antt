@@ -1,11 +1,7 @@
 -- A note turned round the pattern, mirrored, snapped to a grid, scaled or gated.
-use Rattle.std.specs.Prelude.{ℕ, ◌<◌, ℤ, Float}
+use Rattle.std.specs.Prelude.{◌≡◌, ℕ, ℤ, Float}
 use Rattle.notes.specs.declared.Note.{Note}
 use Rattle.notes.specs.Notes.{placed}
-use Rattle.rhythm.specs.declared.changing.Change.TheVariants as C
-use Rattle.rhythm.specs.declared.changing.Change.{Change}
-use Rattle.rhythm.specs.Cuts.{stretched}
-use Rattle.rhythm.specs.Joins.{later}
 use Rattle.rhythm.specs.Values.{rotated_step, mirrored_step, snapped_step, scaled_gain, gated_len}
 
 abbrev pub rotated : ℤ → ℕ → Note → Note
@@ -23,22 +19,8 @@ scaled scale n = record { step = n.step; len = n.len; gain = scaled_gain scale n
 abbrev pub gated : Float → Note → Note
 gated factor n = record { step = n.step; len = gated_len factor n.len; gain = n.gain; tag = n.tag }
 
--- what the copier may do to a note
-abbrev pub changed : Change → Note → Note
-changed (C.Later off) = later off
-changed (C.Stretched num den) = stretched num den
-changed (C.Rotated shift total) = rotated shift total
-changed (C.Mirrored total) = mirrored total
-changed (C.Snapped grid) = snapped grid
-changed (C.Scaled scale) = scaled scale
-changed (C.Gated factor) = gated factor
+-- ---- what the copier does to each note
 
--- nothing is divided by 0
-abbrev pub Ready : Change → Type 0
-Ready (C.Later off) = Unit
-Ready (C.Stretched num den) = 0 < den
-Ready (C.Rotated shift total) = Unit
-Ready (C.Mirrored total) = Unit
-Ready (C.Snapped grid) = Unit
-Ready (C.Scaled scale) = Unit
-Ready (C.Gated factor) = Unit
+-- whatever is given for a note is what `how` gives
+abbrev pub Gives : (Note → Note → Type 0) → (Note → Note) → Type 0
+Gives given how = (n m : Note) → given n m → m ≡ how n

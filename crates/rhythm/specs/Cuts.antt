@@ -2,8 +2,7 @@
 use Rattle.std.specs.Prelude.{ℕ, suc, ◌+◌, ◌-◌, ◌*◌, ◌%◌, true, false, ◌&&◌, List, [], ◌∷◌, ◌==◌, nat_le, nat_lt}
 use Rattle.notes.specs.declared.Note.{Note}
 use Rattle.notes.specs.Notes.{placed}
-use Rattle.rhythm.specs.declared.cutting.Grid.TheVariants.{Fits, Off}
-use Rattle.rhythm.specs.declared.cutting.Grid.{Grid}
+use Rattle.numbers.specs.Answers.{Answer, accepted, refused}
 use Rattle.rhythm.specs.Values.{stretched_by}
 
 -- ---- a window
@@ -32,9 +31,10 @@ note_grid num den place (n ∷ rest) =
 unfoldable pub grid_of : ℕ → ℕ → ℕ → List Note → List ℕ
 grid_of num den bars notes = elim (bars * num % den == 0) [ true ↦ note_grid num den 0 notes | false ↦ 0 ∷ 0 ∷ bars ∷ [] ]
 
-abbrev pub read_grid : Grid → List ℕ
-read_grid Fits = []
-read_grid (Off what place value) = what ∷ place ∷ value ∷ []
+-- refused by 7 with these facts, where there are any
+abbrev pub grid_answer : List ℕ → Answer (Unit {0})
+grid_answer [] = accepted tt
+grid_answer (what ∷ facts) = refused 7 (what ∷ facts)
 
 -- a note with its step and its len times num / den
 abbrev pub stretched : ℕ → ℕ → Note → Note

@@ -1,9 +1,7 @@
 -- Notes made from numbers, every one at full gain.
-use Rattle.std.specs.Prelude.{◌≡◌, ℕ, zero, suc, ◌*◌, ◌%◌, ◌<◌, ◌≤◌, min, max, true, false, List, [], ◌∷◌, nat_lt}
+use Rattle.std.specs.Prelude.{◌≡◌, ℕ, zero, suc, ◌*◌, ◌%◌, ◌<◌, min, max, true, false, List, [], ◌∷◌, nat_lt}
 use Rattle.rounding.specs.Floats.{half_up, whole_above}
 use Rattle.notes.specs.declared.Note.{Note}
-use Rattle.rhythm.specs.declared.making.Spread.TheVariants.{Pulses, Tuplet}
-use Rattle.rhythm.specs.declared.making.Spread.{Spread}
 use Rattle.rhythm.specs.Values.{most_step}
 
 -- a note of gain 1.0, at least one step long
@@ -30,19 +28,9 @@ tuplet_step count steps k = min (half_up (k * steps) count) most_step
 -- ---- the filler of both
 
 -- pulse k stands at the least step that is not below k * steps / pulses (proofs/Even.antt: these are euclidean's hits)
-abbrev pub place_of : Spread → ℕ → ℕ
-place_of (Pulses pulses steps) k = whole_above (k * steps) pulses
-place_of (Tuplet count steps) k = tuplet_step count steps k
+abbrev pub pulse_step : ℕ → ℕ → ℕ → ℕ
+pulse_step pulses steps k = whole_above (k * steps) pulses
 
-abbrev pub hit_at : Spread → ℕ → ℕ → ℕ → Note
-hit_at how len tag k = hit len tag (place_of how k)
-
--- note k is one of the spread's
-abbrev pub Within : Spread → ℕ → Type 0
-Within (Pulses pulses steps) k = (k < pulses) × (pulses ≤ steps)
-Within (Tuplet count steps) k = k < count
-
--- the spread has so many notes
-abbrev pub Held : Spread → ℕ → Type 0
-Held (Pulses pulses steps) count = (count ≡ pulses) × (pulses ≤ steps)
-Held (Tuplet total steps) count = count ≡ total
+-- whatever is given for one of so many notes is what `at` gives
+abbrev pub Places : ℕ → (ℕ → ℕ → Type 0) → (ℕ → ℕ) → Type 0
+Places count given at = (k step : ℕ) → k < count → given k step → step ≡ at k

@@ -1,74 +1,22 @@
-// Each note changed in the same way, and the one copier of notes that every call with input notes
-// goes through, but `slice`, which leaves notes out.
+// The one copier of notes that every call with input notes goes through, but `slice`, which leaves
+// notes out. What is done to each note is a closure of the caller's.
 ghost use Rattle.std.specs.Prelude.{◌≡◌, ◌%◌, ◌≤◌, ◌++◌, map, length, drop};
+ghost use Rattle.notes.specs.declared.Note.{Note};
 ghost use Rattle.notes.specs.Notes.{notes_of, words_of};
-ghost use Rattle.rhythm.specs.Changes.{changed, Ready};
+ghost use Rattle.rhythm.specs.Changes.{Gives};
 
-use crate::steps;
-use notes::Note;
-
-#[derive(Clone, Copy)]
-pub enum Change {
-    // each step so many steps later
-    Later(u64),
-    Stretched { num: u32, den: u32 },
-    Rotated { shift: i64, total: u64 },
-    // the total of the pattern's steps, in which each note is mirrored
-    Mirrored(u64),
-    // the grid in steps, to whose multiples each step goes
-    Snapped(u32),
-    // what each gain is multiplied by
-    Scaled(f32),
-    // what each len is multiplied by
-    Gated(f32),
-}
-
-fn stretched(n: Note, num: u32, den: u32) -> Note
-    requires { Ready (Change.Stretched num den) }
-    ensures { result ≡ changed (Change.Stretched num den) n }
-{
-    Note {
-        step: steps::stretched(n.step, num, den),
-        len: steps::stretched(n.len, num, den),
-        gain: n.gain,
-        tag: n.tag,
-    }
-}
-
-fn changed_note(n: Note, how: Change) -> Note
-    requires { Ready how }
-    ensures { result ≡ changed how n }
-{
-    match how {
-        Change::Later(off) => n.at(steps::later(n.step, off)),
-        Change::Stretched { num, den } => stretched(n, num, den),
-        Change::Rotated { shift, total } => n.at(steps::rotated(n.step, shift, total)),
-        Change::Mirrored(total) => n.at(steps::mirrored(n.step, n.len, total)),
-        Change::Snapped(grid) => n.at(steps::snapped(n.step, grid)),
-        Change::Scaled(scale) => Note {
-            step: n.step,
-            len: n.len,
-            gain: steps::scaled(n.gain, scale),
-            tag: n.tag,
-        },
-        Change::Gated(factor) => Note {
-            step: n.step,
-            len: steps::gated(n.len, factor),
-            gain: n.gain,
-            tag: n.tag,
-        },
-    }
-}
+use notes::{Note, words};
 
 // Writes each note, changed, to the front of out.
-pub fn copy(words: &[u32], how: Change, out: &mut [u32])
-    requires { Ready how × (length words.now % 4 ≡ 0) × (length words.now ≤ length out.old) }
-    ensures { out.new ≡ words_of (map (changed how) (notes_of words.now)) ++ drop (length words.now) out.old }
+// Stays: words that are four a note are asked for, here and in `joining`, since the clause says where
+// the words behind the written ones begin; the words are lent flat (docs/DECISIONS.md).
+pub fn copy<F: Fn(Note) -> Note>(words: &[u32], change: F, out: &mut [u32])
+    requires ready { F.IsAlwaysCallable change }
+    requires whole { length words.now % 4 ≡ 0 }
+    requires room { length words.now ≤ length out.old }
+    ensures { (how : Note → Note) → Gives (F.post change) how → out.new ≡ words_of (map how (notes_of words.now)) ++ drop (length words.now) out.old }
 {
-    let mut i = 0;
-    while i < words.len() {
-        let n = changed_note(notes::words::note_at(words, i), how);
-        notes::words::put_note(out, i, n);
-        i += 4;
+    for (k, note) in words::each(words).iter().enumerate() {
+        words::put_note(out, 4 * k, change(Note::from(*note)));
     }
 }

@@ -3,8 +3,8 @@ ghost use Rattle.std.specs.Prelude.{◌≡◌, ◌+◌, ◌*◌, ◌%◌, ◌≤
 ghost use Rattle.notes.specs.Notes.{notes_of, words_of};
 ghost use Rattle.rhythm.specs.Joins.{joined, copies_from};
 
-use crate::changing;
-use crate::changing::Change;
+use crate::{changing, steps};
+use notes::Note;
 
 // Writes a's notes, and behind them b's, each `off` steps later.
 pub fn join(a: &[u32], b: &[u32], off: u64, out: &mut [u32])
@@ -12,8 +12,12 @@ pub fn join(a: &[u32], b: &[u32], off: u64, out: &mut [u32])
     ensures { out.new ≡ words_of (joined off (notes_of a.now) (notes_of b.now)) ++ drop (length a.now + length b.now) out.old }
 {
     let n = a.len();
-    changing::copy(a, Change::Later(0), out);
-    changing::copy(b, Change::Later(off), &mut out[n..]);
+    changing::copy(a, |note| note, out);
+    changing::copy(
+        b,
+        |note: Note| note.at(steps::later(note.step, off)),
+        &mut out[n..],
+    );
 }
 
 // Writes the notes `times` times, each copy `stride` steps behind the one before. No notes cost
@@ -26,13 +30,13 @@ pub fn copies(words: &[u32], stride: u64, times: u32, out: &mut [u32])
     if n == 0 {
         return;
     }
-    let mut i: u32 = 0;
-    let mut at = 0;
     let mut off: u64 = 0;
-    while i < times {
-        changing::copy(words, Change::Later(off), &mut out[at..]);
-        at += n;
-        off = numbers::saturating_add(off, stride);
-        i += 1;
+    for i in 0..times as usize {
+        changing::copy(
+            words,
+            |note: Note| note.at(steps::later(note.step, off)),
+            &mut out[n * i..],
+        );
+        off = off.saturating_add(stride);
     }
 }

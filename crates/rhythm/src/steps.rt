@@ -8,35 +8,35 @@ ghost use Rattle.rhythm.specs.Values.{most_step, total_steps, later_step, stretc
 pub fn sum_bars(a: u32, b: u32) -> u32
     ensures { result ≡ min (a + b) most_step }
 {
-    numbers::to_u32(a as u64 + b as u64)
+    a.saturating_add(b)
 }
 
 pub fn times_bars(bars: u32, times: u32) -> u32
     ensures { result ≡ min (bars * times) most_step }
 {
-    numbers::to_u32(bars as u64 * times as u64)
+    bars.saturating_mul(times)
 }
 
 // The steps of a number of bars.
 pub fn total(bars: u32, steps_per_bar: u32) -> u64
     ensures { result ≡ total_steps bars steps_per_bar }
 {
-    bars as u64 * numbers::larger(steps_per_bar, 1) as u64
+    bars as u64 * steps_per_bar.max(1) as u64
 }
 
 // The bars that hold a number of steps, at least 1.
 pub fn bars_for(steps: u32, steps_per_bar: u32) -> u32
     ensures { result ≡ bars_for steps steps_per_bar }
 {
-    let bar = numbers::larger(steps_per_bar, 1) as u64;
+    let bar = steps_per_bar.max(1) as u64;
     let bars = (steps as u64 + (bar - 1)) / bar;
-    numbers::larger(numbers::to_u32(bars), 1)
+    numbers::to_u32(bars).max(1)
 }
 
 pub fn later(step: u32, off: u64) -> u32
     ensures { result ≡ later_step off step }
 {
-    numbers::to_u32(numbers::saturating_add(step as u64, off))
+    numbers::to_u32((step as u64).saturating_add(off))
 }
 
 // A step, a len or a number of bars, scaled by num / den.
@@ -68,12 +68,7 @@ pub fn rotated(step: u32, shift: i64, total: u64) -> u32
     if total == 0 {
         return step;
     }
-    let left = turned(
-        step,
-        numbers::negative(shift),
-        numbers::magnitude(shift),
-        total,
-    );
+    let left = turned(step, shift < 0, shift.unsigned_abs(), total);
     (left % 0x1_0000_0000) as u32
 }
 
@@ -81,16 +76,13 @@ pub fn mirrored(step: u32, len: u32, total: u64) -> u32
     ensures { result ≡ mirrored_step total len step }
 {
     let end = step as u64 + len as u64;
-    if total <= end {
-        return 0;
-    }
-    numbers::to_u32(total - end)
+    numbers::to_u32(total.saturating_sub(end))
 }
 
 pub fn snapped(step: u32, grid: u32) -> u32
     ensures { result ≡ snapped_step grid step }
 {
-    let g = numbers::larger(grid, 1) as u64;
+    let g = grid.max(1) as u64;
     numbers::to_u32((step as u64 + g / 2) / g * g)
 }
 
@@ -104,5 +96,5 @@ pub fn gated(len: u32, factor: f32) -> u32
     ensures { result ≡ gated_len factor len }
 {
     let rounded = rounding::round_to_u32(std::num::nearest_u32_to_f32(len) * factor);
-    numbers::larger(rounded, 1)
+    rounded.max(1)
 }

@@ -1,5 +1,5 @@
 -- The test `x != x`: only a NaN differs from itself.
-use Rattle.std.proofs.Common.{◌≡◌, true, false, not, T, sym, subst, true≢false}
+use Rattle.std.proofs.Common.{◌≡◌, Bool, true, false, not, T, sym, subst, true≢false, refl, ◌∙◌}
 use lib.Ieee.{Float, nan, inf, fin, ne, is_nan}
 use lib.Ieee.Compare.{differs_from_itself}
 
@@ -11,3 +11,14 @@ unfolding ne is_nan
 no_nan nan h = absurd (true≢false h)
 no_nan (inf s) h = tt
 no_nan (fin s m e) h = tt
+
+same : (x : Float) (u : Bool) → ne x x ≡ u → (x ≡ nan → ⊥) → ne x x ≡ false
+same x false e h = e
+same x true e h = absurd (h (is_nan_lem x e))
+
+-- it is std's test
+pub differs : (x : Float) (t : Bool) → is_nan x ≡ t → ne x x ≡ t
+unfolding ne is_nan
+differs nan t e = e
+differs (inf s) t e = same (inf s) (ne (inf s) (inf s)) refl (λ q. cc) ∙ e
+differs (fin s m n) t e = same (fin s m n) (ne (fin s m n) (fin s m n)) refl (λ q. cc) ∙ e

@@ -23,11 +23,11 @@ pub fn negative(x: f64) -> bool
 pub fn whole_size(x: f64, nearest: bool) -> u64
     ensures { result ≡ Ieee.to_unsigned 64 (without_sign (if nearest then round_away x else x)) }
 {
-    if x != x {
+    if x.is_nan() {
         return 0;
     }
     // the size is `digits` * 2 ^ (`exponent` - 1075), unless the exponent is 0 or 2047
-    let bits: u64 = f64::to_bits(x) & 0x7fff_ffff_ffff_ffff;
+    let bits: u64 = x.to_bits() & 0x7fff_ffff_ffff_ffff;
     let exponent: u64 = bits >> 52;
     let digits: u64 = (bits & 0xf_ffff_ffff_ffff) | 0x10_0000_0000_0000;
     if exponent < 1022 {
@@ -89,7 +89,7 @@ pub fn cut_to_u32(x: f64) -> u32
 pub fn floor(x: f64) -> f64
     ensures { result ≡ floor_of binary64 x }
 {
-    if x != x {
+    if x.is_nan() {
         return x;
     }
     let n: u64 = whole_size(x, false);
@@ -115,11 +115,11 @@ pub fn floor(x: f64) -> f64
 fn place(x: f64) -> u64
     ensures { result ≡ place_of binary64 x }
 {
-    if x != x {
+    if x.is_nan() {
         return 0;
     }
     // 2^63 is the middle, and the sign's place in the bits
-    let bits: u64 = f64::to_bits(x);
+    let bits: u64 = x.to_bits();
     if bits > 0x7fff_ffff_ffff_ffff {
         0x8000_0000_0000_0000 - (bits - 0x8000_0000_0000_0000)
     } else {
@@ -135,6 +135,8 @@ pub fn max_f64(x: f64, y: f64) -> f64
 }
 
 // `x.clamp(low, high)`: NaN and -0 stay. Where Rust panics, the definition's answer stands.
+// Stays: std's clamp asks for bounds in order, and one for both formats would need a trait that states their comparisons again, which is
+// no plainer than these two tests
 pub fn clamp_f32(x: f32, low: f32, high: f32) -> f32
     ensures { result ≡ clamp x low high }
 {
@@ -169,6 +171,8 @@ pub fn widened(x: f32) -> f64
     std::num::f32_to_f64_with_nan(x)
 }
 
+// Stays: from_bits and to_bits of f32 and f64 are of no trait, so one function for both formats, here and for the words below, would have
+// a trait with the masks, the two calls and their laws twice, and is no plainer than a test and a call
 // The float whose bits are w. Any NaN's bits give a NaN.
 pub fn f32_of(w: u32) -> f32
     ensures { result ≡ Ieee.of_bits binary32 w }
@@ -184,7 +188,7 @@ pub fn f32_of(w: u32) -> f32
 pub fn f32_word(x: f32) -> u32
     ensures { result ≡ Ieee.to_bits binary32 x }
 {
-    if x != x { 0x7fc0_0000 } else { f32::to_bits(x) }
+    if x.is_nan() { 0x7fc0_0000 } else { x.to_bits() }
 }
 
 // The float whose bits are w. Any NaN's bits give a NaN.
@@ -202,9 +206,9 @@ pub fn f64_of(w: u64) -> f64
 pub fn f64_word(x: f64) -> u64
     ensures { result ≡ Ieee.to_bits binary64 x }
 {
-    if x != x {
+    if x.is_nan() {
         0x7ff8_0000_0000_0000
     } else {
-        f64::to_bits(x)
+        x.to_bits()
     }
 }

@@ -1,32 +1,24 @@
 -- What an answer says of the bytes: accepted, they are a score file, whose counts have limits and whose points are the fronts of the lent lists; refused, they are none.
-use mathlib.Core.Path.{◌≡◌, refl, sym, ap, ◌∙◌}
-use mathlib.Core.Bool.{Bool, true, false, cond, ◌&&◌}
-use mathlib.Core.List.{List, []}
-use Prim.Native.Nat.{ℕ, ◌*◌, ◌≤◌, ◌<◌}
-use native.Mathlib.Omega.{arith}
-use lib.Dec.{leb, eqb}
-use lib.IntN.{ℤ}
-use lib.ListN.{length, take, drop}
+use Rattle.std.proofs.Common.{◌≡◌, refl, sym, ap, ◌∙◌, Bool, true, false, cond, ◌&&◌, List, ℕ, ◌*◌, ◌≤◌, ◌<◌, arith, leb, eqb, ℤ, length, take, drop, Result, Ok, Err, Some, None}
 use lib.Seq.{take_at, take_all, length-take-le}
 use Rattle.numbers.specs.Answers.{Answer, accepted, refused}
+use Rattle.numbers.specs.declared.refusal.Refusal.{Refusal}
+use Rattle.numbers.specs.Refusals.{read}
 use Rattle.numbers.proofs.Laws.{and_left, and_right, by_order, cases}
 use Rattle.beats.specs.declared.Beat.{Beat}
 use Rattle.beats.specs.Beats.{is_beat}
-use Rattle.meter.specs.declared.Pickup.TheVariants.{Absent, Present}
 use Rattle.meter.specs.Meters.{sound_pickup}
 use Rattle.score.specs.declared.Score.{Score}
-use Rattle.score.specs.declared.ScoreAnswer.{ScoreAnswer}
-use Rattle.score.specs.declared.ScoreAnswer.TheVariants.{Read, BadFile}
+use Rattle.score.specs.declared.music.Points.{Points}
 use Rattle.score.specs.Bytes.{word_at, number_at}
 use Rattle.score.specs.Format.{tempo_offset, tempo_count, meter_count, is_score, score_of, meter_words, tempo_nums, tempo_dens, tempo_bits}
 use Rattle.score.specs.Format.{laid_out, pickup_good, beats_good, pickup_of, pickup_den, pickup_num, pickup_low, pickup_high}
 use Rattle.score.specs.Answers.{score_answer, after, Leaves}
-use Rattle.score.specs.Readings.{read_score}
 use Rattle.score.proofs.Places.{each_length}
 use Rattle.score.proofs.Whole.{accepted_is, refused_is, score_laid}
 
 -- both at once never
-never : {x y : Bool} (s : Score) → accepted s ≡ refused 13 [] → x ≡ y
+never : {x y : Bool} (s : Score) {n : ℕ} {facts : List ℕ} → accepted s ≡ refused n facts → x ≡ y
 never s e = cc
 
 value : Score → Answer Score → Score
@@ -34,17 +26,17 @@ value s (accepted a) = a
 value s (refused n facts) = s
 
 -- what the answer r says of the bytes that it was given for
-module _ (b : List ℕ) {r : ScoreAnswer} where
-  pub bad_file : r ≡ BadFile → read_score r ≡ score_answer b → is_score b ≡ false
-  bad_file is e = cases (is_score b) (λ t. never (score_of b) (accepted_is b t (score_of b) refl ∙ sym e ∙ ap read_score is)) (λ t. t)
+module _ (b : List ℕ) {r : Result Score Refusal} where
+  pub bad_file : {why : Refusal} → r ≡ Err why → read r ≡ score_answer b → is_score b ≡ false
+  bad_file is e = cases (is_score b) (λ t. never (score_of b) (accepted_is b t (score_of b) refl ∙ sym e ∙ ap read is)) (λ t. t)
 
-  module _ {s : Score} (is : r ≡ Read s) (e : read_score r ≡ score_answer b) where
+  module _ {s : Score} (is : r ≡ Ok s) (e : read r ≡ score_answer b) where
     pub good_file : is_score b ≡ true
-    good_file = cases (is_score b) (λ t. t) (λ t. never s (sym (ap read_score is) ∙ e ∙ sym (refused_is b t)))
+    good_file = cases (is_score b) (λ t. t) (λ t. never s (sym (ap read is) ∙ e ∙ sym (refused_is b t)))
 
     pub says : s ≡ score_of b
     unfolding value
-    says = ap (value s) (sym (ap read_score is) ∙ e ∙ sym (accepted_is b good_file (score_of b) refl))
+    says = ap (value s) (sym (ap read is) ∙ e ∙ sym (accepted_is b good_file (score_of b) refl))
 
 module _ (b : List ℕ) where
   module _ (good : is_score b ≡ true) where
@@ -104,11 +96,11 @@ file_pickup b e = go (eqb (pickup_den b) 0) (good_pickup b e)
     beat : Beat
     beat = record { num = pickup_num b; den = pickup_den b }
 
-    go : (absent : Bool) → cond absent (eqb (pickup_low b) 0 && eqb (pickup_high b) 0) (is_beat beat) ≡ true → sound_pickup (cond absent Absent (Present beat)) ≡ true
+    go : (absent : Bool) → cond absent (eqb (pickup_low b) 0 && eqb (pickup_high b) 0) (is_beat beat) ≡ true → sound_pickup (cond absent None (Some beat)) ≡ true
     go true g = refl
     go false g = g
 
-module _ (b : List ℕ) {r : ScoreAnswer} {s : Score} (is : r ≡ Read s) (e : read_score r ≡ score_answer b) where
+module _ (b : List ℕ) {r : Result Score Refusal} {s : Score} (is : r ≡ Ok s) (e : read r ≡ score_answer b) where
   pub meters_few : s.meters ≤ 256
   meters_few = rw (says b is e) (few_meters b (good_file b is e))
 
@@ -121,12 +113,12 @@ module _ (b : List ℕ) {r : ScoreAnswer} {s : Score} (is : r ≡ Read s) (e : r
 
   -- what is made of it and of the fronts of the lists is made of what the file says
   pub made_of_file : {A : Type 0} (make : Score → List ℕ → List ℤ → List ℕ → List ℕ → A) (none : A)
-      {meter₀ meter : List ℕ} {nums₀ nums : List ℤ} {dens₀ dens bits₀ bits : List ℕ} → Leaves b meter₀ meter nums₀ nums dens₀ dens bits₀ bits
-      → make s (take (3 * s.meters) meter) (take s.tempos nums) (take s.tempos dens) (take s.tempos bits)
+      {before now : Points} → Leaves b before now
+      → make s (take (3 * s.meters) now.meter) (take s.tempos now.nums) (take s.tempos now.dens) (take s.tempos now.bpms)
       ≡ cond (is_score b) (make (score_of b) (meter_words b) (tempo_nums b) (tempo_dens b) (tempo_bits b)) none
-  made_of_file make none {meter₀} {meter} {nums₀} {nums} {dens₀} {dens} {bits₀} {bits} l =
+  made_of_file make none {before} {now} l =
       let g = good_file b is e in
-      rw (says b is e, l.meter_is, l.nums_is, l.dens_is, l.bits_is, meter_front b g meter₀, nums_front b g nums₀, dens_front b g dens₀, bits_front b g bits₀, g)
+      rw (says b is e, l.meter_is, l.nums_is, l.dens_is, l.bits_is, meter_front b g before.meter, nums_front b g before.nums, dens_front b g before.dens, bits_front b g before.bpms, g)
 
 -- ---- a longer input
 

@@ -10,5 +10,3 @@ pub use Rattle.score.proofs.Accepted.{meters_few, tempos_few, pickup_sound, made
 pub use Rattle.score.proofs.Accepted.{longest}
 -- one byte more than the longest settles what a program makes of an input
 pub use Rattle.score.proofs.Accepted.{read_enough}
--- no two cases of the answer read alike
-pub use Rattle.score.proofs.Readings.{scores_apart}

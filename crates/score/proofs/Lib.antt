@@ -1,5 +1,5 @@
 pub mod Places
+pub mod Chunks
 pub mod Whole
 pub mod Accepted
-pub mod Readings
 pub mod Laws

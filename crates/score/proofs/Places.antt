@@ -1,19 +1,11 @@
 -- Words that were read are those of the definitions, and a walk over places is told by the places that are left.
-use mathlib.Core.Path.{◌≡◌, refl, sym, ap, ◌∙◌}
-use mathlib.Core.Bool.{Bool, true, false, ◌&&◌}
-use mathlib.Core.List.{List, [], ◌∷◌}
-use Prim.Native.Nat.{ℕ, zero, suc, ◌+◌, ◌-◌, ◌*◌, ◌<◌}
-use native.Mathlib.Omega.{arith}
+use Rattle.std.proofs.Common.{◌≡◌, refl, sym, ap, ◌∙◌, Bool, false, List, [], ◌∷◌, Some, None, ℕ, zero, suc, ◌+◌, ◌-◌, ◌*◌, ◌<◌, ℤ, eqb, length, get_or, arith}
 use borrow.Author.Tests.{eq-eqb, ne_eqb}
-use lib.Dec.{eqb}
-use lib.IntN.{ℤ}
-use lib.ListN.{length, get_or}
 use Rattle.numbers.specs.Bits.{signed_of}
 use Rattle.beats.specs.Beats.{is_beat}
-use Rattle.meter.specs.declared.Pickup.TheVariants.{Absent, Present}
 use Rattle.score.specs.Bytes.{word_at, number_at, each}
 use Rattle.score.specs.Format.{edition, meter_count, meter_offset, tempo_count, tempo_offset, total}
-use Rattle.score.specs.Format.{beat_at, laid_out_by, laid_out, pickup_good, pickup_of, beats_good, pickup_den, pickup_low, pickup_high, pickup_num}
+use Rattle.score.specs.Format.{laid_out_by, laid_out, pickup_good, pickup_of, pickup_den, pickup_low, pickup_high, pickup_num}
 
 -- ---- words and numbers
 
@@ -46,32 +38,15 @@ module _ (b : List ℕ) (den : ℕ) (e : den ≡ pickup_den b) where
   unfolding pickup_good
   some_good n num f = simp (ne_eqb (pickup_den b) 0 (λ q. n (e ∙ q)), e, f)
 
-  pub none_is : den ≡ 0 → Absent ≡ pickup_of b
+  pub none_is : den ≡ 0 → None ≡ pickup_of b
   unfolding pickup_of
   none_is z = simp (eq-eqb (pickup_den b) 0 (sym e ∙ z))
 
-  pub some_is : (den ≡ 0 → ⊥) → (num : ℤ) → num ≡ pickup_num b → Present (record { num = num; den = den }) ≡ pickup_of b
+  pub some_is : (den ≡ 0 → ⊥) → (num : ℤ) → num ≡ pickup_num b → Some (record { num = num; den = den }) ≡ pickup_of b
   unfolding pickup_of
   some_is n num f = simp (ne_eqb (pickup_den b) 0 (λ q. n (e ∙ q)), e, f)
 
 -- ---- walks over the places that are left
-
-module _ (b : List ℕ) where
-  pub good_step : (p left : ℕ) → 0 < left → is_beat (beat_at b p) ≡ true → beats_good b p left ≡ beats_good b (p + 16) (left - 1)
-  unfolding beats_good
-  good_step p zero h e = let z : ⊥ = omega arith in absurd z
-  good_step p (suc k) h e =
-      let j : k ≡ suc k - 1 = omega arith in
-      ap (λ (t : Bool). t && beats_good b (p + 16) k) e ∙ ap (beats_good b (p + 16)) j
-
-  pub bad_step : (p left : ℕ) → 0 < left → is_beat (beat_at b p) ≡ false → beats_good b p left ≡ false
-  unfolding beats_good
-  bad_step p zero h e = let z : ⊥ = omega arith in absurd z
-  bad_step p (suc k) h e = ap (λ (t : Bool). t && beats_good b (p + 16) k) e
-
-  pub none_good : (p left : ℕ) → left ≡ 0 → beats_good b p left ≡ true
-  unfolding beats_good
-  none_good p left e = ap (beats_good b p) e
 
 module _ {A : Type 0} (read : ℕ → A) where
   next_each : (p step m : ℕ) → 0 < m → each read p step m ≡ read p ∷ each read (p + step) step (m - 1)

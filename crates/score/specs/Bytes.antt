@@ -1,5 +1,5 @@
 -- Words and numbers in a list of bytes, the lowest byte first, and words as bytes. A byte past the end counts as 0.
-use Rattle.std.specs.Prelude.{ℕ, zero, suc, ◌+◌, ◌*◌, ◌/◌, ◌%◌, List, [], ◌∷◌, ◌++◌, ℤ, get_or}
+use Rattle.std.specs.Prelude.{◌≡◌, ◌<◌, ℕ, zero, suc, ◌+◌, ◌*◌, ◌/◌, ◌%◌, List, [], ◌∷◌, ◌++◌, ℤ, get_or}
 use Rattle.numbers.specs.Bits.{signed_of}
 
 -- ---- read
@@ -17,6 +17,10 @@ module _ {A : Type 0} (read : ℕ → A) where
   unfoldable pub each : ℕ → ℕ → ℕ → List A
   each place step zero = []
   each place step (suc count) = read place ∷ each (place + step) step count
+
+-- what may be read at each of those places is what `at` says
+abbrev pub Reads : {A : Type 0} → ℕ → ℕ → ℕ → (ℕ → A → Type 0) → (ℕ → A) → Type 0
+Reads {A} count place step given at = (k : ℕ) (x : A) → k < count → given (place + step * k) x → x ≡ at (place + step * k)
 
 -- ---- written
 

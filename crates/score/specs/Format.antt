@@ -1,9 +1,7 @@
 -- The score file: when a list of bytes is one, and what it says.
-use Rattle.std.specs.Prelude.{Bool, true, cond, ◌&&◌, List, ℕ, zero, suc, ◌+◌, ◌*◌, leb, eqb, ℤ, length}
+use Rattle.std.specs.Prelude.{Bool, Option, Some, None, true, cond, ◌&&◌, List, ℕ, zero, suc, ◌+◌, ◌*◌, leb, eqb, ℤ, length}
 use Rattle.beats.specs.declared.Beat.{Beat}
 use Rattle.beats.specs.Beats.{is_beat}
-use Rattle.meter.specs.declared.Pickup.{Pickup}
-use Rattle.meter.specs.declared.Pickup.TheVariants.{Absent, Present}
 use Rattle.score.specs.declared.Score.{Score}
 use Rattle.score.specs.Bytes.{word_at, number_at, each}
 
@@ -91,8 +89,8 @@ is_score bytes = leb 48 (length bytes) && (laid_out bytes && (pickup_good bytes 
 
 -- ---- what it says
 
-unfoldable pub pickup_of : List ℕ → Pickup
-pickup_of bytes = cond (eqb (pickup_den bytes) 0) Absent (Present (record { num = pickup_num bytes; den = pickup_den bytes }))
+unfoldable pub pickup_of : List ℕ → Option Beat
+pickup_of bytes = cond (eqb (pickup_den bytes) 0) None (Some (record { num = pickup_num bytes; den = pickup_den bytes }))
 
 unfoldable pub score_of : List ℕ → Score
 score_of bytes = record {

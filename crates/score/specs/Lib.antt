@@ -1,4 +1,3 @@
 pub mod Bytes
 pub mod Format
 pub mod Answers
-pub mod Readings

@@ -1,10 +1,9 @@
 // The rules of the score file, a test each, and its header's values.
-ghost use Rattle.std.specs.Prelude.{◌≡◌, ◌+◌, ◌*◌, ◌≤◌, length};
-ghost use Rattle.score.specs.Format.{laid_out_by, laid_out, pickup_good, beat_at, beats_good, pickup_of, score_of};
+ghost use Rattle.std.specs.Prelude.{◌≡◌, true, ◌≤◌, length};
+ghost use Rattle.score.specs.Format.{laid_out_by, laid_out, pickup_good, tempo_offset, tempo_count, beat_at, beats_good, pickup_of, score_of};
 
 use crate::{Score, words};
 use beats::Beat;
-use meter::Pickup;
 
 // Whether the header's words fit each other and the length. The products come behind the limits
 // on the counts, so none is too large.
@@ -19,25 +18,13 @@ fn laid_out_by(
 ) -> bool
     ensures { result ≡ laid_out_by edition meters meter_offset tempos tempo_offset total long }
 {
-    if edition != 1 {
-        return false;
-    }
-    if meters > 256 {
-        return false;
-    }
-    if meter_offset != 48 {
-        return false;
-    }
-    if tempos > 1024 {
-        return false;
-    }
-    if tempo_offset != 48 + 12 * meters {
-        return false;
-    }
-    if total != 48 + 12 * meters + 16 * tempos {
-        return false;
-    }
-    long == total as usize
+    edition == 1
+        && meters <= 256
+        && meter_offset == 48
+        && tempos <= 1024
+        && tempo_offset == 48 + 12 * meters
+        && total == 48 + 12 * meters + 16 * tempos
+        && long == total as usize
 }
 
 pub fn laid_out(bytes: &[u8]) -> bool
@@ -81,44 +68,40 @@ pub fn pickup_good(bytes: &[u8]) -> bool
     }
 }
 
-// The beat of the tempo point at a place.
-fn beat_at(bytes: &[u8], place: usize) -> Beat
-    requires { place + 12 ≤ length bytes.now }
-    ensures { result ≡ beat_at bytes.now place }
+// The beat of a tempo point.
+fn beat_of(point: &[u8]) -> Beat
+    requires { 16 ≤ length point.now }
+    ensures { result ≡ beat_at point.now 0 }
 {
-    let num = words::number_at(bytes, place);
-    let den = words::word_at(bytes, place + 8);
+    let num = words::number_at(point, 0);
+    let den = words::word_at(point, 8);
     Beat { num, den }
 }
 
-// Whether each of `count` tempo points, the first at a place, has a beat in lowest terms.
-pub fn beats_good(bytes: &[u8], place: usize, count: usize) -> bool
-    requires { place + 16 * count ≤ length bytes.now }
-    ensures { result ≡ beats_good bytes.now place count }
+// Whether each tempo point has a beat in lowest terms.
+pub fn beats_good(bytes: &[u8]) -> bool
+    requires { (48 ≤ length bytes.now) × (laid_out bytes.now ≡ true) }
+    ensures { result ≡ beats_good bytes.now (tempo_offset bytes.now) (tempo_count bytes.now) }
 {
-    let mut p = place;
-    let mut left = count;
-    while 0 < left {
-        let beat = beat_at(bytes, p);
-        if !beat.is_beat() {
+    let place = words::word_at(bytes, 40) as usize;
+    for point in bytes[place..].chunks_exact(16) {
+        if !beat_of(point).is_beat() {
             return false;
         }
-        p += 16;
-        left -= 1;
     }
     true
 }
 
-fn pickup_of(bytes: &[u8]) -> Pickup
+fn pickup_of(bytes: &[u8]) -> Option<Beat>
     requires { 48 ≤ length bytes.now }
     ensures { result ≡ pickup_of bytes.now }
 {
     let den = words::word_at(bytes, 16);
     if den == 0 {
-        return Pickup::Absent;
+        return None;
     }
     let num = words::number_at(bytes, 20);
-    Pickup::Present(Beat { num, den })
+    Some(Beat { num, den })
 }
 
 // The header's values.

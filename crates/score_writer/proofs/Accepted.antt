@@ -1,16 +1,8 @@
 -- What an answer says of what was lent: written, the points are within the limits and the beats in lowest terms, and so many bytes are the file's.
-use mathlib.Core.Path.{◌≡◌, refl, sym}
-use mathlib.Core.Bool.{Bool, true, false, cond}
-use mathlib.Core.List.{List, []}
-use Prim.Native.Nat.{ℕ, ◌≤◌}
-use native.Mathlib.Omega.{arith}
-use lib.IntN.{ℤ}
-use lib.ListN.{length, length-append}
+use Rattle.std.proofs.Common.{◌≡◌, refl, sym, Bool, true, false, cond, List, [], ℕ, ◌≤◌, arith, ℤ, length, length-append}
 use Rattle.numbers.specs.Answers.{accepted, refused}
 use Rattle.score.specs.declared.Score.{Score}
-use Rattle.score_writer.specs.declared.WriteAnswer.TheVariants.{Written}
 use Rattle.score_writer.specs.Answers.{few_points, in_lowest_terms, file_from, write_answer, written_into}
-use Rattle.score_writer.specs.Readings.{read_write}
 
 module _ (score : Score) (meter : List ℕ) (nums : List ℤ) (dens bits : List ℕ) where
   pub record WrittenFile (bytes : ℕ) : Type 0 where
@@ -18,7 +10,7 @@ module _ (score : Score) (meter : List ℕ) (nums : List ℤ) (dens bits : List 
     pub lowest : in_lowest_terms score meter nums dens bits ≡ true
     pub long : bytes ≡ length (file_from score meter nums dens bits)
 
-  pub written_file : (bytes : ℕ) → read_write (Written bytes) ≡ write_answer score meter nums dens bits → WrittenFile bytes
+  pub written_file : (bytes : ℕ) → accepted bytes ≡ write_answer score meter nums dens bits → WrittenFile bytes
   unfolding write_answer
   written_file bytes e = go (few_points score) (in_lowest_terms score meter nums dens bits) refl refl e
     where

@@ -13,8 +13,8 @@ use Rattle.numbers.specs.Divisor.{gcd_of}
 use Rattle.numbers.proofs.Laws.{both}
 use Rattle.numbers.specs.Bits.{bits_of}
 use Rattle.beats.specs.Beats.{is_beat}
-use Rattle.meter.specs.declared.Pickup.{Pickup}
-use Rattle.meter.specs.declared.Pickup.TheVariants.{Absent, Present}
+use Rattle.std.proofs.Common.{Option, Some, None}
+use Rattle.beats.specs.declared.Beat.{Beat}
 use Rattle.meter.specs.Meters.{sound_pickup}
 use Rattle.score.specs.declared.Score.{Score}
 use Rattle.score.specs.Bytes.{word_at, number_at, each}
@@ -24,7 +24,7 @@ use Rattle.score_writer.specs.Answers.{few_points}
 use Rattle.score_writer.specs.Promise.{AllBelow}
 use Rattle.score_writer.proofs.Places.{number_at_lem, low_again, high_again}
 
-pub record PickupSaid (b : List ℕ) (pickup : Pickup) : Type 0 where
+pub record PickupSaid (b : List ℕ) (pickup : Option Beat) : Type 0 where
   pub den : word_at b 16 ≡ (pickup_beat pickup).den
   pub lower : word_at b 20 ≡ low_word (pickup_beat pickup).num
   pub higher : word_at b 24 ≡ high_word (pickup_beat pickup).num
@@ -43,13 +43,13 @@ pub record HeaderSaid (b : List ℕ) (score : Score) : Type 0 where
 
 -- ---- a header that says a score
 
-pub pickup_back : (b : List ℕ) (pickup : Pickup) → PickupSaid b pickup → sound_pickup pickup ≡ true → fits_i64 (pickup_beat pickup).num ≡ true
+pub pickup_back : (b : List ℕ) (pickup : Option Beat) → PickupSaid b pickup → sound_pickup pickup ≡ true → fits_i64 (pickup_beat pickup).num ≡ true
     → (pickup_of b ≡ pickup) × (pickup_good b ≡ true)
 unfolding pickup_of pickup_good bits_of
-pickup_back b Absent said sound fits =
+pickup_back b None said sound fits =
     let none = eq-eqb (word_at b 16) 0 said.den in
     (simp none, simp (none, eq-eqb (word_at b 20) 0 said.lower, eq-eqb (word_at b 24) 0 said.higher))
-pickup_back b (Present beat) said sound fits =
+pickup_back b (Some beat) said sound fits =
     let num = number_at_lem b 20 beat.num fits said.lower said.higher in
     let some = ltb-true 0 beat.den (both (ltb 0 beat.den) (eqb (gcd_of (nat_abs beat.num) beat.den) 1) sound).0 in
     let there = ne_eqb beat.den 0 (λ q. omega arith) in
@@ -76,7 +76,7 @@ pickup_said b all good = go (eqb (word_at b 16) 0) refl good
   where
     go : (t : Bool) → eqb (word_at b 16) 0 ≡ t
         → cond t (eqb (word_at b 20) 0 && eqb (word_at b 24) 0) (is_beat (record { num = number_at b 20; den = word_at b 16 })) ≡ true
-        → PickupSaid b (cond t Absent (Present (record { num = number_at b 20; den = word_at b 16 })))
+        → PickupSaid b (cond t None (Some (record { num = number_at b 20; den = word_at b 16 })))
     go true e h =
         let w = both (eqb (word_at b 20) 0) (eqb (word_at b 24) 0) h in
         record { den = eqb-true (word_at b 16) 0 e; lower = eqb-true (word_at b 20) 0 w.0; higher = eqb-true (word_at b 24) 0 w.1 }

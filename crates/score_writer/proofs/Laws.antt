@@ -7,8 +7,6 @@ use Rattle.score_writer.proofs.Again.{writes_again}
 pub use Rattle.score_writer.proofs.Accepted.{WrittenFile, written_file, written_room}
 -- how long a file is, by its points
 pub use Rattle.score_writer.proofs.Putting.{file_length}
--- no two cases of the answer read alike
-pub use Rattle.score_writer.proofs.Readings.{writes_apart}
 
 -- what is written is read back as it was given, and a file read and written again is the same
 pub promised : Promised

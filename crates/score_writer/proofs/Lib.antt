@@ -1,6 +1,5 @@
 pub mod Putting
 pub mod Outcomes
-pub mod Readings
 pub mod Places
 pub mod Headers
 pub mod Back

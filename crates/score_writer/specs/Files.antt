@@ -1,8 +1,7 @@
 -- The bytes of the file that says a score: a list of 32-bit words, each as four bytes.
-use Rattle.std.specs.Prelude.{List, [], ◌∷◌, ◌++◌, ℕ, ◌/◌, ◌%◌, ℤ, pos}
+use Rattle.std.specs.Prelude.{List, Option, [], ◌∷◌, ◌++◌, ℕ, ◌/◌, ◌%◌, ℤ, pos}
 use Rattle.numbers.specs.Bits.{bits_of}
 use Rattle.beats.specs.declared.Beat.{Beat}
-use Rattle.meter.specs.declared.Pickup.{Pickup}
 use Rattle.meter.specs.Meters.{pickup_or}
 use Rattle.score.specs.declared.Score.{Score}
 use Rattle.score.specs.Bytes.{words_bytes}
@@ -19,7 +18,7 @@ high_word num = bits_of num / 4294967296
 -- ---- the parts of a file
 
 -- the pickup that the header has, 0/0 where there is none
-abbrev pub pickup_beat : Pickup → Beat
+abbrev pub pickup_beat : Option Beat → Beat
 pickup_beat pickup = pickup_or pickup (record { num = pos 0; den = 0 })
 
 -- edition 1, rate, beats per bar, bpm bits; pickup denominator, numerator low and high; meter count and offset, tempo count and offset, total bytes

@@ -1,4 +1,3 @@
 pub mod Files
 pub mod Answers
-pub mod Readings
 pub mod Promise

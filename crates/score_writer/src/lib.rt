@@ -2,46 +2,28 @@
 // struct.
 #![tactic(auto)]
 
+ghost use Rattle.numbers.specs.Refusals.{read};
 ghost use Rattle.score_writer.specs.Answers.{Writes};
-ghost use Rattle.score_writer.specs.Readings.{read_write};
 
-use score::{LONGEST, Score};
+use numbers::Refusal;
+use score::{LONGEST, Music, Points, Score};
 
 mod file;
 mod words;
 
-#[derive(Clone, Copy)]
-pub enum WriteAnswer {
-    // so many bytes, from the front of the output
-    Written(usize),
-    NotBeat,
-    TooLong,
-}
-
 // Writes a score file: three words for each meter point, and a numerator, a denominator and the bits
-// of a tempo for each tempo point, all from the front of the lent lists.
-pub fn write_score(
-    score: Score,
-    meter: &[u32; 768],
-    nums: &[i64; 1024],
-    dens: &[u32; 1024],
-    bpms: &[u32; 1024],
-    out: &mut [u8; LONGEST],
-) -> WriteAnswer
-    ensures { Writes score meter.now nums.now dens.now bpms.now out.old (read_write result) out.new }
+// of a tempo for each tempo point, all from the front of the lent lists. Answers how many bytes it
+// has, from the front of the output; 4 where the score counts too many points, 1 where the pickup or
+// the beat of a point that counts is no beat.
+pub fn write_score(score: Score, points: &Points, out: &mut [u8; LONGEST]) -> Result<usize, Refusal>
+    ensures { Writes score points.now.meter points.now.nums points.now.dens points.now.bpms out.old (read result) out.new }
 {
-    if score.meters > 256 {
-        return WriteAnswer::TooLong;
+    if score.meters > 256 || score.tempos > 1024 {
+        return Err(Refusal::TooLong);
     }
-    if score.tempos > 1024 {
-        return WriteAnswer::TooLong;
+    let music = Music { score, points };
+    if !meter::is_sound_pickup(score.pickup) || !file::beats_good(music) {
+        return Err(Refusal::NotBeat);
     }
-    let pickup = score.pickup;
-    if !pickup.is_sound() {
-        return WriteAnswer::NotBeat;
-    }
-    if !file::beats_good(score.tempos, nums, dens, bpms) {
-        return WriteAnswer::NotBeat;
-    }
-    WriteAnswer::Written(file::write(out, score, meter, nums, dens, bpms))
+    Ok(file::write(music, out))
 }

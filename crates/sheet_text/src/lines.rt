@@ -1,13 +1,14 @@
 // The lines of a sheet: for each bar its label, its start and its frame.
 ghost use Rattle.std.specs.Prelude.{◌≡◌, ◌+◌, ◌*◌, ◌≤◌, length};
 ghost use Rattle.meter.specs.Meters.{points_of};
-ghost use Rattle.tempo.specs.Tempos.{Parallel, tempo_points};
-ghost use Rattle.text.specs.Texts.{Puts};
+ghost use Rattle.tempo.specs.Maps.{points};
+ghost use Rattle.text.specs.Pages.{Appends};
 ghost use Rattle.sheet_text.specs.Sheets.{label, line_text, line_of, lines_of, sheet_of};
 
 use beats::Beat;
-use meter::bars;
-use text::put;
+use meter::bars::MeterMap;
+use tempo::TempoMap;
+use text::Page;
 use timeline::places;
 use transport::Transport;
 
@@ -19,79 +20,51 @@ fn label(bar: u32) -> u32
 }
 
 // Label, start and frame.
-fn line(out: &mut [u8], place: usize, label: u32, start: Beat, frame: u64) -> usize
-    requires { place + length (line_text label start frame) ≤ length out.old }
-    ensures { Puts place (line_text label start frame) out.old result out.new }
+fn line(page: &mut Page, label: u32, start: Beat, frame: u64)
+    requires { page.old.place + length (line_text label start frame) ≤ length page.old.out.now }
+    ensures { Appends (line_text label start frame) page.old page.new }
 {
-    let a = put::decimal(out, place, label as u64);
-    let b = put::byte(out, a, b' ');
-    let c = put::beat(out, b, start);
-    let d = put::byte(out, c, b' ');
-    let e = put::decimal(out, d, frame);
-    put::byte(out, e, b'\n')
+    page.decimal(label as u64);
+    page.byte(b' ');
+    page.beat(start);
+    page.byte(b' ');
+    page.decimal(frame);
+    page.byte(b'\n');
 }
 
 // The line of a bar, which has at most 64 bytes.
-pub fn bar_line(
-    out: &mut [u8],
-    place: usize,
-    t: Transport,
-    bar: u32,
-    words: &[u32],
-    nums: &[i64],
-    dens: &[u32],
-    tempos: &[u32],
-) -> usize
-    requires place_in_bounds { place + 64 ≤ length out.old }
-    requires parallel { Parallel nums.now dens.now tempos.now }
-    ensures puts { Puts place (line_of t (points_of words.now) (tempo_points nums.now dens.now tempos.now) bar) out.old result out.new }
-    ensures upper_bound { result ≤ place + 64 }
+pub fn bar_line(page: &mut Page, t: Transport, bar: u32, words: &[u32], map: &TempoMap)
+    requires { page.old.place + 64 ≤ length page.old.out.now }
+    ensures puts { Appends (line_of t (points_of words.now) (points map.now) bar) page.old page.new }
+    ensures upper_bound { page.new.place ≤ page.old.place + 64 }
 {
-    let pickup = t.pickup;
-    let start = bars::start(words, t.beats_per_bar, pickup, bar);
-    let frame = places::frame_at_bar(t, bar, words, nums, dens, tempos);
-    line(out, place, label(bar), start, frame)
+    let bars = MeterMap {
+        words,
+        default: t.beats_per_bar,
+        pickup: t.pickup,
+    };
+    let start = bars.start(bar);
+    let frame = places::frame_at_bar(t, bar, words, map);
+    line(page, label(bar), start, frame);
 }
 
 // The lines of so many bars, from bar 0 on.
-pub fn bar_lines(
-    out: &mut [u8],
-    place: usize,
-    t: Transport,
-    bars: u32,
-    words: &[u32],
-    nums: &[i64],
-    dens: &[u32],
-    tempos: &[u32],
-) -> usize
-    requires bars_in_bounds { place + 64 * bars ≤ length out.old }
-    requires parallel { Parallel nums.now dens.now tempos.now }
-    ensures puts { Puts place (lines_of t (points_of words.now) (tempo_points nums.now dens.now tempos.now) bars) out.old result out.new }
-    ensures upper_bound { result ≤ place + 64 * bars }
+pub fn bar_lines(page: &mut Page, t: Transport, bars: u32, words: &[u32], map: &TempoMap)
+    requires { page.old.place + 64 * bars ≤ length page.old.out.now }
+    ensures puts { Appends (lines_of t (points_of words.now) (points map.now) bars) page.old page.new }
+    ensures upper_bound { page.new.place ≤ page.old.place + 64 * bars }
 {
-    let mut p = place;
-    let mut bar: u32 = 0;
-    while bar < bars {
-        p = bar_line(out, p, t, bar, words, nums, dens, tempos);
-        bar += 1;
+    for bar in 0..bars {
+        bar_line(page, t, bar, words, map);
     }
-    p
 }
 
 // The header, and the lines of eight bars.
-pub fn sheet(
-    out: &mut [u8],
-    t: Transport,
-    words: &[u32],
-    nums: &[i64],
-    dens: &[u32],
-    tempos: &[u32],
-) -> usize
-    requires in_bounds { 1024 ≤ length out.old }
-    requires parallel { Parallel nums.now dens.now tempos.now }
-    ensures puts { Puts 0 (sheet_of t (points_of words.now) (tempo_points nums.now dens.now tempos.now)) out.old result out.new }
-    ensures upper_bound { result ≤ 528 }
+pub fn sheet(page: &mut Page, t: Transport, words: &[u32], map: &TempoMap)
+    requires { page.old.place + 528 ≤ length page.old.out.now }
+    ensures puts { Appends (sheet_of t (points_of words.now) (points map.now)) page.old page.new }
+    ensures upper_bound { page.new.place ≤ page.old.place + 528 }
 {
-    let p = put::bytes(out, 0, b"bar start frame\n");
-    bar_lines(out, p, t, 8, words, nums, dens, tempos)
+    page.bytes(b"bar start frame\n");
+    bar_lines(page, t, 8, words, map);
 }

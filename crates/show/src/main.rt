@@ -7,6 +7,8 @@ use std::io;
 
 const READ: usize = LONGEST + 1;
 
+// Stays: `count`, `show` and `sheet` have these lines alike, each with its own text function and its own sizes
+// of what it lends: one for all would take the function as a closure and both sizes as parameters.
 fn main(rt: HostRuntime) -> io::Result<()> {
     let mut bytes = [0u8; READ];
     let mut out = [0u8; 65536];

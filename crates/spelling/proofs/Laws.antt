@@ -9,3 +9,5 @@ pub use Rattle.spelling.proofs.Back.{decimal_long, all_back, number_back, signed
 pub use Rattle.spelling.proofs.Back.{whole_tempo, point_tempo_lem, bits_tempo_lem}
 -- a decimal tempo is the nearest float
 pub use Rattle.spelling.proofs.Decimals.{decimal_nearest}
+-- the error of a number that is missing
+pub use Rattle.spelling.proofs.Ratios.{missing}

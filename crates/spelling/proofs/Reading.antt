@@ -1,8 +1,8 @@
--- Digits one by one: what the first of those that are left adds, and what ends the reading.
-use Rattle.std.proofs.Common.{◌≡◌, ℕ, suc, ◌+◌, ◌-◌, ◌*◌, ◌/◌, ◌<◌, ◌≤◌, Bool, true, false, cond, ◌&&◌, eqb, ltb, leb, List, [], ◌∷◌, ◌++◌, length, get_or, drop, sym, refl, ap, ◌∙◌, div-lt_iff_lt-mul, mul-le-mul_left, le-div_iff_mul-le, add-one, arith, drop-cons, le-ltb, lt-ltb, eq-eqb, ne_eqb, le-leb, leb-false, leb-true}
+-- (Option ℕ) one by one: what the first of those that are left adds, and what ends the reading.
+use Rattle.std.proofs.Common.{◌≡◌, ℕ, suc, ◌+◌, ◌-◌, ◌*◌, ◌<◌, ◌≤◌, Bool, true, false, cond, ◌&&◌, eqb, ltb, leb, List, [], ◌∷◌, ◌++◌, length, get_or, drop, sym, refl, ap, ◌∙◌, mul-le-mul_left, add-one, arith, drop-cons, le-ltb, lt-ltb, eq-eqb, ne_eqb, le-leb, leb-false, leb-true, Option, None, Some}
+use Rattle.std.specs.Char.{digit_value}
+use Rattle.std.proofs.lemmas.Bool.Decides.{nat_tests}
 use borrow.Author.Tests.{lt-leb}
-use Rattle.spelling.specs.declared.digits.Digits.{Digits}
-use Rattle.spelling.specs.declared.digits.Digits.TheVariants.{Number, NotDigits}
 use Rattle.spelling.specs.Words.{digit_of, all_are_digits, value_from, number_by, some_digits}
 
 -- ---- one byte
@@ -38,6 +38,16 @@ module _ (byte : ℕ) where
   behind_f h =
       simp (le-leb 48 byte (omega arith), lt-leb byte 57 (omega arith), le-leb 65 byte (omega arith), lt-leb byte 70 (omega arith), le-leb 97 byte (omega arith), lt-leb byte 102 h)
 
+  -- the digit that std reads is this one, in a base up to 16
+  module _ (base : ℕ) (small : base ≤ 16) where
+    pub read_alike : digit_value byte < base → digit_of byte ≡ digit_value byte
+    unfolding digit_of
+    read_alike h = grind (arith, nat_tests)
+
+    pub reads_alike : digit_of byte < base → digit_of byte ≡ digit_value byte
+    unfolding digit_of
+    reads_alike h = grind (arith, nat_tests)
+
 -- ---- a word
 
 -- a number only grows
@@ -50,7 +60,7 @@ grows base h front (byte ∷ word) =
     omega arith
 
 module _ (base limit : ℕ) where
-  pub none_left : (n : ℕ) → n ≤ limit → number_by base limit n [] ≡ Number n
+  pub none_left : (n : ℕ) → n ≤ limit → number_by base limit n [] ≡ Some n
   unfolding number_by all_are_digits value_from
   none_left n h = simp (le-leb n limit h)
 
@@ -58,52 +68,47 @@ module _ (base limit : ℕ) where
   unfolding number_by all_are_digits value_from
   one_more n byte word h = simp (lt-ltb (digit_of byte) base h)
 
-  pub no_digit : (n byte : ℕ) (word : List ℕ) → base ≤ digit_of byte → number_by base limit n (byte ∷ word) ≡ NotDigits
+  pub no_digit : (n byte : ℕ) (word : List ℕ) → base ≤ digit_of byte → number_by base limit n (byte ∷ word) ≡ None
   unfolding number_by all_are_digits value_from
   no_digit n byte word h = simp (le-ltb (digit_of byte) base h)
 
-  pub too_large : 1 ≤ base → (n : ℕ) (word : List ℕ) → limit < n → number_by base limit n word ≡ NotDigits
+  pub too_large : 1 ≤ base → (n : ℕ) (word : List ℕ) → limit < n → number_by base limit n word ≡ None
   unfolding number_by
   too_large b n word h = go (all_are_digits base word)
     where
       over : leb (value_from base n word) limit ≡ false
       over = lt-leb (value_from base n word) limit (omega (arith, grows base b n word))
 
-      go : (all : Bool) → cond (all && leb (value_from base n word) limit) (Number (value_from base n word)) NotDigits ≡ NotDigits
+      go : (all : Bool) → cond (all && leb (value_from base n word) limit) (Some (value_from base n word)) None ≡ None
       go true = simp over
       go false = refl
 
   -- the same, at a place of a word
 
-  module _ (n : ℕ) (word : List ℕ) (i : ℕ) (inside : i < length word) (d : ℕ) (is : d ≡ digit_of (get_or word i 0)) where
+  module _ (n : ℕ) (word : List ℕ) (i : ℕ) (inside : i < length word) where
     first : number_by base limit n (drop i word) ≡ number_by base limit n (get_or word i 0 ∷ drop (suc i) word)
     first = ap (number_by base limit n) (drop-cons word i 0 inside)
 
-    pub stops : base ≤ d → number_by base limit n (drop i word) ≡ NotDigits
-    stops h = first ∙ no_digit n (get_or word i 0) (drop (suc i) word) (omega arith)
+    pub stops : (digit_of (get_or word i 0) < base → ⊥) → number_by base limit n (drop i word) ≡ None
+    stops h = first ∙ no_digit n (get_or word i 0) (drop (suc i) word) (omega (arith, h))
 
-    pub goes_on : d < base → number_by base limit n (drop i word) ≡ number_by base limit (n * base + d) (drop (i + 1) word)
-    goes_on h = first ∙ one_more n (get_or word i 0) (drop (suc i) word) (omega arith)
-        ∙ ap (λ (k : ℕ). number_by base limit (n * base + k) (drop (suc i) word)) (sym is)
-        ∙ ap (λ (k : ℕ). number_by base limit (n * base + d) (drop k word)) (sym (add-one i))
+    pub goes_on : (m : ℕ) → digit_of (get_or word i 0) < base → m ≡ n * base + digit_of (get_or word i 0)
+        → number_by base limit n (drop i word) ≡ number_by base limit m (drop (i + 1) word)
+    goes_on m h e = first ∙ one_more n (get_or word i 0) (drop (suc i) word) h
+        ∙ ap (λ (k : ℕ). number_by base limit k (drop (suc i) word)) (sym e)
+        ∙ ap (λ (k : ℕ). number_by base limit m (drop k word)) (sym (add-one i))
 
-    pub passes : d < base → (limit - d) / base < n → d ≤ limit → number_by base limit n (drop i word) ≡ NotDigits
-    passes h over small =
-        let wide = (div-lt_iff_lt-mul {k = base} {x = limit - d} {y = n} (omega arith)).0 over in
-        goes_on h ∙ too_large (omega arith) (n * base + d) (drop (i + 1) word) (omega arith)
-
--- a number that passes the test has room for one digit more
-pub room : (base limit n d : ℕ) → 0 < base → d ≤ limit → n ≤ (limit - d) / base → n * base + d ≤ limit
-room base limit n d b small h = let fits = (le-div_iff_mul-le {k = base} {x = n} {y = limit - d} b).0 h in omega arith
+    pub passes : 1 ≤ base → digit_of (get_or word i 0) < base → limit < n * base + digit_of (get_or word i 0) → number_by base limit n (drop i word) ≡ None
+    passes b h over = goes_on (n * base + digit_of (get_or word i 0)) h refl ∙ too_large b (n * base + digit_of (get_or word i 0)) (drop (i + 1) word) over
 
 -- ---- what is known of an answer
 
-pub most : (base limit front : ℕ) (word : List ℕ) (n : ℕ) → Number n ≡ number_by base limit front word → n ≤ limit
+pub most : (base limit front : ℕ) (word : List ℕ) (n : ℕ) → Some n ≡ number_by base limit front word → n ≤ limit
 unfolding number_by
 most base limit front word n e = go (all_are_digits base word) (leb (value_from base front word) limit) refl e
   where
     go : (all small : Bool) → leb (value_from base front word) limit ≡ small
-        → Number n ≡ cond (all && small) (Number (value_from base front word)) NotDigits → n ≤ limit
+        → Some n ≡ cond (all && small) (Some (value_from base front word)) None → n ≤ limit
     go true true s q =
         let v : n ≡ value_from base front word = cc in
         let w = leb-true (value_from base front word) limit s in
@@ -111,16 +116,16 @@ most base limit front word n e = go (all_are_digits base word) (leb (value_from 
     go true false s q = let z : ◌≡◌ {A = ℕ} 0 1 = cc in omega arith
     go false small s q = let z : ◌≡◌ {A = ℕ} 0 1 = cc in omega arith
 
-pub all_digits : (base limit front : ℕ) (word : List ℕ) (n : ℕ) → number_by base limit front word ≡ Number n → all_are_digits base word ≡ true
+pub all_digits : (base limit front : ℕ) (word : List ℕ) (n : ℕ) → number_by base limit front word ≡ Some n → all_are_digits base word ≡ true
 unfolding number_by
 all_digits base limit front word n e = go (all_are_digits base word) (leb (value_from base front word) limit) e
   where
-    go : (all small : Bool) → cond (all && small) (Number (value_from base front word)) NotDigits ≡ Number n → all ≡ true
+    go : (all small : Bool) → cond (all && small) (Some (value_from base front word)) None ≡ Some n → all ≡ true
     go true small q = refl
     go false small q = cc
 
 module _ (limit : ℕ) (word : List ℕ) where
-  pub no_word : length word ≡ 0 → NotDigits ≡ some_digits limit word
+  pub no_word : length word ≡ 0 → None ≡ some_digits limit word
   unfolding some_digits
   no_word e = simp (eq-eqb (length word) 0 e)
 
@@ -128,19 +133,19 @@ module _ (limit : ℕ) (word : List ℕ) where
   unfolding some_digits
   some_word n = simp (ne_eqb (length word) 0 n)
 
-  pub some_most : (n : ℕ) → Number n ≡ some_digits limit word → n ≤ limit
+  pub some_most : (n : ℕ) → Some n ≡ some_digits limit word → n ≤ limit
   unfolding some_digits
   some_most n e = go (eqb (length word) 0) e
     where
-      go : (empty : Bool) → Number n ≡ cond empty NotDigits (number_by 10 limit 0 word) → n ≤ limit
+      go : (empty : Bool) → Some n ≡ cond empty None (number_by 10 limit 0 word) → n ≤ limit
       go true q = let z : ◌≡◌ {A = ℕ} 0 1 = cc in omega arith
       go false q = most 10 limit 0 word n q
 
 -- ---- one word behind another
 
-unfoldable pub carried : ℕ → ℕ → Digits → List ℕ → Digits
-carried base limit (Number n) word = number_by base limit n word
-carried base limit NotDigits word = NotDigits
+unfoldable pub carried : ℕ → ℕ → Option ℕ → List ℕ → Option ℕ
+carried base limit (Some n) word = number_by base limit n word
+carried base limit None word = None
 
 pub all_append : (base : ℕ) (front back : List ℕ) → all_are_digits base (front ++ back) ≡ all_are_digits base front && all_are_digits base back
 unfolding all_are_digits
@@ -161,15 +166,15 @@ pub number_append : (base limit : ℕ) → 1 ≤ base → (n : ℕ) (front back 
     → number_by base limit n (front ++ back) ≡ carried base limit (number_by base limit n front) back
 unfolding number_by carried
 number_append base limit b n front back =
-    ap (λ (all : Bool). cond (all && leb (value_from base n (front ++ back)) limit) (Number (value_from base n (front ++ back))) NotDigits) (all_append base front back)
-    ∙ ap (λ (v : ℕ). cond ((all_are_digits base front && all_are_digits base back) && leb v limit) (Number v) NotDigits) (value_append base n front back)
+    ap (λ (all : Bool). cond (all && leb (value_from base n (front ++ back)) limit) (Some (value_from base n (front ++ back))) None) (all_append base front back)
+    ∙ ap (λ (v : ℕ). cond ((all_are_digits base front && all_are_digits base back) && leb v limit) (Some v) None) (value_append base n front back)
     ∙ go (all_are_digits base front) (leb (value_from base n front) limit) refl
   where
-    whole : Bool → Digits
-    whole all = cond ((all && all_are_digits base back) && leb (value_from base (value_from base n front) back) limit) (Number (value_from base (value_from base n front) back)) NotDigits
+    whole : Bool → Option ℕ
+    whole all = cond ((all && all_are_digits base back) && leb (value_from base (value_from base n front) back) limit) (Some (value_from base (value_from base n front) back)) None
 
     go : (all small : Bool) → leb (value_from base n front) limit ≡ small
-        → whole all ≡ carried base limit (cond (all && small) (Number (value_from base n front)) NotDigits) back
+        → whole all ≡ carried base limit (cond (all && small) (Some (value_from base n front)) None) back
     go true true s = refl
     go true false s = too_large base limit b (value_from base n front) back (leb-false (value_from base n front) limit s)
     go false small s = refl

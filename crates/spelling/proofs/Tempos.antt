@@ -1,19 +1,24 @@
 -- A tempo's text, part by part: its bits, its digits before a point, and those behind it.
-use Rattle.std.proofs.Common.{◌≡◌, ℕ, suc, ◌<◌, ◌≤◌, true, false, cond, ◌&&◌, eqb, ltb, leb, List, [], ◌∷◌, ◌++◌, length, get_or, take, drop, sym, refl, ap, ◌∙◌, arith, take_all, le-ltb, lt-ltb, eq-eqb, ne_eqb, eqb-true, le-leb}
+use Rattle.std.proofs.Common.{◌≡◌, ℕ, suc, ◌<◌, ◌≤◌, true, false, cond, ◌&&◌, eqb, ltb, leb, List, [], ◌∷◌, ◌++◌, length, get_or, take, drop, sym, refl, ap, ◌∙◌, arith, take_all, le-ltb, lt-ltb, eq-eqb, ne_eqb, eqb-true, le-leb, Option, None, Some}
+use Rattle.std.specs.List.{starts_with}
+use Rattle.std.proofs.lemmas.Bool.Decides.{nat_tests}
 use borrow.Author.Tests.{lt-leb}
 use Rattle.numbers.proofs.Laws.{by_order, and_left, cond_same}
 use Rattle.splits.specs.Splits.{other, run}
-use Rattle.spelling.specs.declared.digits.Digits.{Digits}
-use Rattle.spelling.specs.declared.digits.Digits.TheVariants.{Number, NotDigits}
-use Rattle.spelling.specs.declared.TempoWord.{TempoWord}
-use Rattle.spelling.specs.declared.TempoWord.TheVariants.{NotTempo}
-use Rattle.spelling.specs.Words.{number_by, some_digits, tempo_by, behind_point, point_tempo, decimal_tempo, is_bits, as_bits, bits_tempo, tempo_of}
+use Rattle.spelling.specs.Words.{number_by, some_digits, tempo_by, behind_point, point_tempo, decimal_tempo, is_bits, bits_tempo, tempo_of}
 use Rattle.spelling.proofs.Reading.{number_append, carried, no_word, some_word}
 
 -- ---- bits
 
+-- the test that std makes of the first two bytes
+pub by_start : (word : List ℕ) → length word ≡ 10 → starts_with eqb word (48 ∷ 120 ∷ []) ≡ is_bits word
+unfolding is_bits
+by_start [] e = absurd (omega arith)
+by_start (a ∷ []) e = absurd (omega arith)
+by_start (a ∷ b ∷ rest) e = grind (arith, nat_tests)
+
 module _ (word : List ℕ) where
-  pub bits_is : as_bits (number_by 16 4294967295 0 word) ≡ bits_tempo word
+  pub bits_is : number_by 16 4294967295 0 word ≡ bits_tempo word
   unfolding bits_tempo
   bits_is = refl
 
@@ -44,11 +49,11 @@ module _ (word : List ℕ) where
 -- ---- behind a point
 
 module _ (front : ℕ) (word : List ℕ) where
-  pub no_places : length word ≡ 0 → NotTempo ≡ behind_point front word
+  pub no_places : length word ≡ 0 → None ≡ behind_point front word
   unfolding behind_point
   no_places e = simp (le-ltb 0 (length word) (omega arith))
 
-  pub many_places : 10 < length word → NotTempo ≡ behind_point front word
+  pub many_places : 10 < length word → None ≡ behind_point front word
   unfolding behind_point
   many_places h = simp (lt-ltb 0 (length word) (omega arith), lt-leb (length word) 10 h)
 
@@ -57,30 +62,30 @@ module _ (front : ℕ) (word : List ℕ) where
   some_places n h = simp (lt-ltb 0 (length word) (omega arith), le-leb (length word) 10 h)
 
 -- the tempo of what was read before a point, and the word behind it
-unfoldable pub pointed : Digits → List ℕ → TempoWord
-pointed (Number front) back = behind_point front back
-pointed NotDigits back = NotTempo
+unfoldable pub pointed : Option ℕ → List ℕ → Option ℕ
+pointed (Some front) back = behind_point front back
+pointed None back = None
 
-tested : (read : Digits) (back : List ℕ)
-    → cond (ltb 0 (length back) && leb (length back) 10) (tempo_by (length back) (carried 10 16777215 read back)) NotTempo ≡ pointed read back
+tested : (read : Option ℕ) (back : List ℕ)
+    → cond (ltb 0 (length back) && leb (length back) 10) (tempo_by (length back) (carried 10 16777215 read back)) None ≡ pointed read back
 unfolding carried pointed behind_point
-tested (Number n) back = refl
-tested NotDigits back = cond_same (ltb 0 (length back) && leb (length back) 10) NotTempo
+tested (Some n) back = refl
+tested None back = cond_same (ltb 0 (length back) && leb (length back) 10) None
 
 some_front : (front back : List ℕ) → (length front ≡ 0 → ⊥)
-    → point_tempo front back ≡ cond (ltb 0 (length back) && leb (length back) 10) (tempo_by (length back) (number_by 10 16777215 0 (front ++ back))) NotTempo
+    → point_tempo front back ≡ cond (ltb 0 (length back) && leb (length back) 10) (tempo_by (length back) (number_by 10 16777215 0 (front ++ back))) None
 unfolding point_tempo
 some_front front back n = simp (lt-ltb 0 (length front) (omega arith))
 
 pointed_is : (front back : List ℕ) → point_tempo front back ≡ pointed (some_digits 16777215 front) back
 unfolding point_tempo pointed
-pointed_is [] back = ap (λ (read : Digits). pointed read back) (no_word 16777215 [] refl)
+pointed_is [] back = ap (λ (read : Option ℕ). pointed read back) (no_word 16777215 [] refl)
 pointed_is (byte ∷ front) back =
     some_front (byte ∷ front) back (λ z. omega arith)
-    ∙ ap (λ (all : Digits). cond (ltb 0 (length back) && leb (length back) 10) (tempo_by (length back) all) NotTempo)
+    ∙ ap (λ (all : Option ℕ). cond (ltb 0 (length back) && leb (length back) 10) (tempo_by (length back) all) None)
     (number_append 10 16777215 (omega arith) 0 (byte ∷ front) back)
     ∙ tested (number_by 10 16777215 0 (byte ∷ front)) back
-    ∙ ap (λ (read : Digits). pointed read back) (some_word 16777215 (byte ∷ front) (λ z. omega arith))
+    ∙ ap (λ (read : Option ℕ). pointed read back) (some_word 16777215 (byte ∷ front) (λ z. omega arith))
 
 -- ---- decimal digits
 
@@ -102,7 +107,7 @@ module _ (word : List ℕ) where
     without_point h = ap (λ (p : ℕ). tempo_by 0 (some_digits 16777215 (take p word))) is ∙ at_end (omega arith)
 
     -- where the bytes before the point are no digits
-    pub no_front : NotDigits ≡ some_digits 16777215 (take point word) → NotTempo ≡ decimal_tempo word
+    pub no_front : None ≡ some_digits 16777215 (take point word) → None ≡ decimal_tempo word
     unfolding pointed
     no_front e =
-        by_order point (length word) (λ h. ap (λ (read : Digits). pointed read (drop (suc point) word)) e ∙ with_point_lem h) (λ h. ap (tempo_by 0) e ∙ without_point h)
+        by_order point (length word) (λ h. ap (λ (read : Option ℕ). pointed read (drop (suc point) word)) e ∙ with_point_lem h) (λ h. ap (tempo_by 0) e ∙ without_point h)

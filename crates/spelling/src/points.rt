@@ -4,8 +4,7 @@ ghost use Rattle.std.specs.Float.Ieee as Ieee;
 ghost use Rattle.std.specs.Float.{binary32};
 ghost use Rattle.spelling.specs.Words.{quotient, behind_point, decimal_tempo, bits_tempo, is_bits, tempo_of};
 
-use crate::digits::Digits;
-use crate::{TempoWord, digits};
+use crate::digits;
 use splits::scan;
 
 // 10^places, which a binary32 holds exactly up to 10^10.
@@ -37,38 +36,28 @@ pub fn over_ten(n: u32, places: usize) -> u32
 }
 
 // The tempo whose digits before the point are a number, and whose digits behind it are a word.
-fn behind_point(front: u64, word: &[u8]) -> TempoWord
+fn behind_point(front: u64, word: &[u8]) -> Option<u32>
     requires { front ≤ 16777215 }
     ensures { result ≡ behind_point front word.now }
 {
     let places = word.len();
-    if places == 0 {
-        return TempoWord::NotTempo;
+    if places == 0 || places > 10 {
+        return None;
     }
-    if places > 10 {
-        return TempoWord::NotTempo;
-    }
-    match digits::behind(word, 10, 0xff_ffff, front) {
-        Digits::Number(n) => TempoWord::Read(over_ten(n as u32, places)),
-        Digits::NotDigits => TempoWord::NotTempo,
-    }
+    let n = digits::behind(word, 10, 0xff_ffff, front)?;
+    Some(over_ten(n as u32, places))
 }
 
 // `digits` or `digits.digits`.
-fn decimal(word: &[u8]) -> TempoWord
+fn decimal(word: &[u8]) -> Option<u32>
     ensures { result ≡ decimal_tempo word.now }
 {
     let point = scan::until(word, 0, b'.');
-    match digits::some(&word[..point], 0xff_ffff) {
-        Digits::NotDigits => TempoWord::NotTempo,
-        Digits::Number(front) => {
-            if point < word.len() {
-                let from = point + 1;
-                behind_point(front, &word[from..])
-            } else {
-                TempoWord::Read(over_ten(front as u32, 0))
-            }
-        }
+    let front = digits::some(&word[..point], 0xff_ffff)?;
+    if point < word.len() {
+        behind_point(front, &word[point + 1..])
+    } else {
+        Some(over_ten(front as u32, 0))
     }
 }
 
@@ -76,26 +65,18 @@ fn decimal(word: &[u8]) -> TempoWord
 fn is_bits(word: &[u8]) -> bool
     ensures { result ≡ is_bits word.now }
 {
-    if word.len() != 10 {
-        return false;
-    }
-    if word[0] != b'0' {
-        return false;
-    }
-    word[1] == b'x'
+    word.len() == 10 && word.starts_with(b"0x")
 }
 
 // The bits that hexadecimal digits say.
-fn bits(word: &[u8]) -> TempoWord
+fn bits(word: &[u8]) -> Option<u32>
     ensures { result ≡ bits_tempo word.now }
 {
-    match digits::behind(word, 16, 0xffff_ffff, 0) {
-        Digits::Number(n) => TempoWord::Read(n as u32),
-        Digits::NotDigits => TempoWord::NotTempo,
-    }
+    let n = digits::behind(word, 16, 0xffff_ffff, 0)?;
+    Some(n as u32)
 }
 
-pub fn tempo(word: &[u8]) -> TempoWord
+pub fn tempo(word: &[u8]) -> Option<u32>
     ensures { result ≡ tempo_of word.now }
 {
     if is_bits(word) {

@@ -1,4 +1,5 @@
 pub mod Runs
 pub mod Parts
+pub mod Searches
 pub mod Places
 pub mod Laws

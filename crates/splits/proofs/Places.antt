@@ -1,17 +1,14 @@
 -- Lines and words by their places in a text.
 use mathlib.Core.Path.{◌≡◌, refl, sym, ap, ◌∙◌}
-use mathlib.Core.Bool.{Bool, true, false, ◌&&◌, and-false}
+use mathlib.Core.Bool.{Bool, ◌&&◌}
 use mathlib.Core.List.{List, [], ◌∷◌}
 use Prim.Native.Nat.{ℕ, suc, ◌+◌, ◌-◌, ◌≤◌, ◌<◌}
 use native.Mathlib.Omega.{arith}
-use native.Mathlib.Numerals.{add-one}
-use borrow.Author.Tests.{eq-eqb, ne_eqb}
 use lib.Dec.{eqb}
-use lib.ListN.{length, take, drop, get_or, length-drop, drop_of_length-le}
-use lib.Seq.{drop-cons, drop-drop, drop-length, take_all}
-use Rattle.splits.specs.declared.found.Found.TheVariants.{One, Two, Other}
-use Rattle.splits.specs.Splits.{blank, inked, other, run, past, part, split, filled, lines, words, body, few, same}
-use Rattle.splits.specs.Readings.{read_found}
+use lib.Pointwise.{pointwise}
+use lib.ListN.{length, take, drop, length-drop, drop_of_length-le}
+use lib.Seq.{drop-drop, drop-length, take_all}
+use Rattle.splits.specs.Splits.{blank, inked, other, run, past, part, split, filled, lines, words, body, single, double, neither, few, same}
 use Rattle.splits.proofs.Runs.{past_front}
 use Rattle.splits.proofs.Parts.{split_first, skip, begins, word_first}
 
@@ -81,58 +78,32 @@ module _ (line : List ℕ) (from : ℕ) where
 -- ---- how many
 
 module _ (line : List ℕ) (from : ℕ) where
-  pub found_none : words (drop from line) ≡ [] → read_found line Other ≡ few (words (drop from line))
-  unfolding read_found few
+  pub found_none : words (drop from line) ≡ [] → neither ≡ few (words (drop from line))
+  unfolding few
   found_none e = sym (ap few e)
 
   module _ (first end : ℕ) (one : words (drop from line) ≡ part line first end ∷ words (drop end line)) where
-    pub found_one : words (drop end line) ≡ [] → read_found line (One first end) ≡ few (words (drop from line))
-    unfolding read_found few
+    pub found_one : words (drop end line) ≡ [] → single (part line first end) ≡ few (words (drop from line))
+    unfolding few
     found_one e = sym (ap few (one ∙ ap (λ (rest : List (List ℕ)). part line first end ∷ rest) e))
 
     module _ (second close : ℕ) (two : words (drop end line) ≡ part line second close ∷ words (drop close line)) where
       both : words (drop from line) ≡ part line first end ∷ part line second close ∷ words (drop close line)
       both = one ∙ ap (λ (rest : List (List ℕ)). part line first end ∷ rest) two
 
-      pub found_two : words (drop close line) ≡ [] → read_found line (Two first end second close) ≡ few (words (drop from line))
-      unfolding read_found few
+      pub found_two : words (drop close line) ≡ [] → double (part line first end) (part line second close) ≡ few (words (drop from line))
+      unfolding few
       found_two e = sym (ap few (both ∙ ap (λ (rest : List (List ℕ)). part line first end ∷ part line second close ∷ rest) e))
 
-      pub found_more : {word : List ℕ} {rest : List (List ℕ)} → words (drop close line) ≡ word ∷ rest → read_found line Other ≡ few (words (drop from line))
-      unfolding read_found few
+      pub found_more : {word : List ℕ} {rest : List (List ℕ)} → words (drop close line) ≡ word ∷ rest → neither ≡ few (words (drop from line))
+      unfolding few
       found_more e = sym (ap few (both ∙ ap (λ (rest : List (List ℕ)). part line first end ∷ part line second close ∷ rest) e))
 
 -- ---- words compared
 
-pub differ : (word key : List ℕ) → (length word ≡ length key → ⊥) → same word key ≡ false
+pub same_is : (word key : List ℕ) → pointwise eqb word key ≡ same word key
 unfolding same
-differ [] [] n = absurd (n refl)
-differ [] (byte ∷ key) n = refl
-differ (byte ∷ word) [] n = refl
-differ (byte ∷ word) (other ∷ key) n = ap (λ (t : Bool). eqb byte other && t) (differ word key (λ e. n (ap suc e))) ∙ and-false (eqb byte other)
-
-heads : (byte other : ℕ) (word key : List ℕ) → byte ≡ other → same (byte ∷ word) (other ∷ key) ≡ same word key
-unfolding same
-heads byte other word key e = rw (eq-eqb byte other e)
-
-heads_differ : (byte other : ℕ) (word key : List ℕ) → (byte ≡ other → ⊥) → same (byte ∷ word) (other ∷ key) ≡ false
-unfolding same
-heads_differ byte other word key e = rw (ne_eqb byte other e)
-
-module _ (word key : List ℕ) (i : ℕ) (h : i < length word) (k : i < length key) where
-  apart : same (drop i word) (drop i key) ≡ same (get_or word i 0 ∷ drop (suc i) word) (get_or key i 0 ∷ drop (suc i) key)
-  apart = ap (λ (l : List ℕ). same l (drop i key)) (drop-cons word i 0 h) ∙ ap (λ (l : List ℕ). same (get_or word i 0 ∷ drop (suc i) word) l) (drop-cons key i 0 k)
-
-  pub same_more : get_or word i 0 ≡ get_or key i 0 → same (drop (i + 1) word) (drop (i + 1) key) ≡ same (drop i word) (drop i key)
-  same_more e =
-      ap (λ (n : ℕ). same (drop n word) (drop n key)) (add-one i)
-      ∙ sym (apart ∙ heads (get_or word i 0) (get_or key i 0) (drop (suc i) word) (drop (suc i) key) e)
-
-  pub same_stop : (get_or word i 0 ≡ get_or key i 0 → ⊥) → same (drop i word) (drop i key) ≡ false
-  same_stop e = apart ∙ heads_differ (get_or word i 0) (get_or key i 0) (drop (suc i) word) (drop (suc i) key) e
-
-pub same_end : (word key : List ℕ) (i : ℕ) → i ≡ length word → length word ≡ length key → same (drop i word) (drop i key) ≡ true
-unfolding same
-same_end word key i e f =
-    ap (λ (l : List ℕ). same l (drop i key)) (ap (λ (n : ℕ). drop n word) e ∙ drop-length word)
-    ∙ ap (λ (l : List ℕ). same [] l) (ap (λ (n : ℕ). drop n key) (e ∙ f) ∙ drop-length key)
+same_is [] [] = refl
+same_is [] (byte ∷ key) = refl
+same_is (byte ∷ word) [] = refl
+same_is (byte ∷ word) (other ∷ key) = ap (λ (t : Bool). eqb byte other && t) (same_is word key)

@@ -1,16 +1,9 @@
--- Where words were found, as the words themselves.
-use Rattle.std.specs.Prelude.{List, ℕ, ◌≤◌}
+-- The words that were found.
 use Rattle.splits.specs.declared.found.Found.{Found}
 use Rattle.splits.specs.declared.found.Found.TheVariants.{One, Two, Other}
-use Rattle.splits.specs.Splits.{Few, single, double, neither, part}
+use Rattle.splits.specs.Splits.{Few, single, double, neither}
 
-unfoldable pub read_found : List ℕ → Found → Few
-read_found line (One from end) = single (part line from end)
-read_found line (Two from end second close) = double (part line from end) (part line second close)
-read_found line Other = neither
-
--- the places lie within so many bytes
-abbrev pub Within : ℕ → Found → Type 0
-Within size (One from end) = (from ≤ end) × (end ≤ size)
-Within size (Two from end second close) = (from ≤ end) × (end ≤ size) × (second ≤ close) × (close ≤ size)
-Within size Other = 0 ≤ size
+unfoldable pub read_found : Found → Few
+read_found (One word) = single word.now
+read_found (Two word second) = double word.now second.now
+read_found Other = neither

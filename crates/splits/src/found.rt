@@ -1,22 +1,22 @@
-// The words of a line, by their places.
+// The words of a line.
 ghost use Rattle.std.specs.Prelude.{◌≡◌, ◌≤◌, length, drop};
 ghost use Rattle.splits.specs.Splits.{words, few, same};
-ghost use Rattle.splits.specs.Readings.{read_found, Within};
+ghost use Rattle.splits.specs.Readings.{read_found};
 
 use crate::scan;
 
-// One word or two, each from a place up to another; or another number of words.
+// One word or two, or another number of words.
 #[derive(Clone, Copy)]
-pub enum Found {
-    One(usize, usize),
-    Two(usize, usize, usize, usize),
+pub enum Found<'a> {
+    One(&'a [u8]),
+    Two(&'a [u8], &'a [u8]),
     Other,
 }
 
 // The words of a line from a place on.
-pub fn words(line: &[u8], from: usize) -> Found
+pub fn words(line: &[u8], from: usize) -> Found<'_>
     requires { from ≤ length line.now }
-    ensures { (read_found line.now result ≡ few (words (drop from line.now))) × Within (length line.now) result }
+    ensures { read_found result ≡ few (words (drop from line.now)) }
 {
     let first = scan::blanks(line, from);
     if first == line.len() {
@@ -25,12 +25,12 @@ pub fn words(line: &[u8], from: usize) -> Found
     let end = scan::word(line, first);
     let second = scan::blanks(line, end);
     if second == line.len() {
-        return Found::One(first, end);
+        return Found::One(&line[first..end]);
     }
     let close = scan::word(line, second);
     let third = scan::blanks(line, close);
     if third == line.len() {
-        return Found::Two(first, end, second, close);
+        return Found::Two(&line[first..end], &line[second..close]);
     }
     Found::Other
 }
@@ -39,15 +39,5 @@ pub fn words(line: &[u8], from: usize) -> Found
 pub fn same(word: &[u8], key: &[u8]) -> bool
     ensures { result ≡ same word.now key.now }
 {
-    if word.len() != key.len() {
-        return false;
-    }
-    let mut i = 0;
-    while i < word.len() {
-        if word[i] != key[i] {
-            return false;
-        }
-        i += 1;
-    }
-    true
+    word == key
 }

@@ -6,13 +6,7 @@ ghost use Rattle.splits.specs.Splits.{blank, inked, other, past};
 fn is_blank(byte: u8) -> bool
     ensures { result ≡ blank byte }
 {
-    if byte == b' ' {
-        return true;
-    }
-    if byte == b'\t' {
-        return true;
-    }
-    byte == b'\r'
+    matches!(byte, b' ' | b'\t' | b'\r')
 }
 
 // The next mark from a place on, or the end.
@@ -20,14 +14,10 @@ pub fn until(text: &[u8], from: usize, mark: u8) -> usize
     requires { from ≤ length text.now }
     ensures { (result ≡ past (other mark) text.now from) × (from ≤ result) × (result ≤ length text.now) }
 {
-    let mut place = from;
-    while place < text.len() {
-        if text[place] == mark {
-            return place;
-        }
-        place += 1;
+    match text[from..].iter().position(|byte| *byte == mark) {
+        Some(n) => from + n,
+        None => text.len(),
     }
-    place
 }
 
 // The next byte from a place on that is no blank, or the end.
@@ -35,14 +25,10 @@ pub fn blanks(text: &[u8], from: usize) -> usize
     requires { from ≤ length text.now }
     ensures { (result ≡ past blank text.now from) × (from ≤ result) × (result ≤ length text.now) }
 {
-    let mut place = from;
-    while place < text.len() {
-        if !is_blank(text[place]) {
-            return place;
-        }
-        place += 1;
+    match text[from..].iter().position(|byte| !is_blank(*byte)) {
+        Some(n) => from + n,
+        None => text.len(),
     }
-    place
 }
 
 // The end of the word at a place: the next blank, or the end.
@@ -50,12 +36,8 @@ pub fn word(text: &[u8], from: usize) -> usize
     requires { from ≤ length text.now }
     ensures { (result ≡ past inked text.now from) × (from ≤ result) × (result ≤ length text.now) }
 {
-    let mut place = from;
-    while place < text.len() {
-        if is_blank(text[place]) {
-            return place;
-        }
-        place += 1;
+    match text[from..].iter().position(|byte| is_blank(*byte)) {
+        Some(n) => from + n,
+        None => text.len(),
     }
-    place
 }

@@ -182,8 +182,8 @@ module _ (clock : List ℕ) (long : length clock ≡ 11) (lines : List ℕ) wher
         let fit = (accepted_fit lines t first.block (and_left (is_accepted (answer_to lines t first.block).answer) _ oks)).0 in
         let j = joining lines t first.block (blocks_of rest) reach oks in
         let r = runs lines (first ∷ rest) clock long oks in
-        let wrapped = (advanced t n).wrapped in
-        let finished = (advanced t n).finished in
+        let wrapped = (advanced t n).moves.wrapped in
+        let finished = (advanced t n).moves.finished in
         record {
           run_cues = r.cues_are ∙ j.run_cues;
           run_clock = ends lines rest clock first long oks ∙ ap (placed clock) j.run_end ∙ ap (clock_after clock) (advance_fit t n fit);

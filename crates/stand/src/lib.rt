@@ -1,45 +1,27 @@
 // The calls of a bar display over numbers and slices. Each answers 0, or the number of document 01
 // by which it refuses, with no lent word changed. A clock is the eleven words of `clock_words`.
 // `stand_c` exports them to C.
+// Stays: the lists and what is written are parameters one by one, and the answer is a number: the C
+// interface.
 #![tactic(auto)]
 
 ghost use Rattle.std.specs.Prelude.{◌≡◌};
 ghost use Rattle.numbers.specs.Answers.{number, given};
-ghost use Rattle.timeline.specs.Readings.{number_of};
 ghost use Rattle.stand.specs.Calls.{counted, started, framed, filled, lines_after, advanced_by, cued, cues_after};
 ghost use Rattle.stand.specs.Words.{flags, moves_flags, said_flags, said_count, clock_after};
 
 use beats::Beat;
 use clock_words::WORDS;
-use cues::CueReport;
-use filler::FillAnswer;
-use meter::{BarAnswer, CountAnswer};
-use timeline::FrameAnswer;
-use timeline::tests::Refusal;
-use transport::Advance;
 
-fn number_of(why: Refusal) -> u32
-    ensures { result ≡ number_of why }
-{
-    match why {
-        Refusal::Unsound => 12,
-        Refusal::Uneven => 3,
-        Refusal::TooLong => 4,
-        Refusal::NotBeat => 1,
-    }
-}
-
+#[tactic(auto, unfolding(crate::specs::Words::flags))]
 fn flags_of(wrapped: bool, finished: bool) -> u32
     ensures { result ≡ flags wrapped finished }
 {
-    if wrapped {
-        if finished { 3 } else { 1 }
-    } else {
-        if finished { 2 } else { 0 }
-    }
+    u32::from(wrapped) + 2 * u32::from(finished)
 }
 
 // How many bars have gone by at a beat.
+#[tactic(auto, unfolding(crate::specs::Calls::counted))]
 pub fn pulleybale_count(
     meter: &[u32],
     beats: u32,
@@ -54,17 +36,16 @@ pub fn pulleybale_count(
 {
     let pickup = clock_words::pickup_of(pickup_num, pickup_den);
     match meter::bar_count_at_beat(meter, beats, pickup, Beat { num, den }) {
-        CountAnswer::Bars(n) => {
+        Ok(n) => {
             *bars = n;
             0
         }
-        CountAnswer::Uneven => 3,
-        CountAnswer::TooLong => 4,
-        CountAnswer::NotBeat => 1,
+        Err(why) => u32::from(why),
     }
 }
 
 // The beat at which a bar starts.
+#[tactic(auto, unfolding(crate::specs::Calls::started))]
 pub fn pulleybale_start(
     meter: &[u32],
     beats: u32,
@@ -80,20 +61,17 @@ pub fn pulleybale_start(
 {
     let pickup = clock_words::pickup_of(pickup_num, pickup_den);
     match meter::beat_at_bar(meter, beats, pickup, bar) {
-        BarAnswer::Beats(beat) => {
-            let above = beat.num;
-            let below = beat.den;
-            *num = above;
-            *den = below;
+        Ok(beat) => {
+            *num = beat.num;
+            *den = beat.den;
             0
         }
-        BarAnswer::Uneven => 3,
-        BarAnswer::TooLong => 4,
-        BarAnswer::NotBeat => 1,
+        Err(why) => u32::from(why),
     }
 }
 
 // The frame on which a bar starts.
+#[tactic(auto, unfolding(crate::specs::Calls::framed))]
 pub fn pulleybale_frame(
     clock: &[u64; WORDS],
     meter: &[u32],
@@ -108,16 +86,16 @@ pub fn pulleybale_frame(
 {
     let t = clock_words::clock_of(clock);
     match timeline::frame_at_bar(t, bar, meter, nums, dens, tempos) {
-        FrameAnswer::Frame(x) => {
+        Ok(x) => {
             *frame = x;
             0
         }
-        FrameAnswer::Refused(why) => number_of(why),
-        FrameAnswer::OutOfReach => 10,
+        Err(why) => u32::from(why),
     }
 }
 
 // The frames of the bars from 0 on, as many as there are lines.
+#[tactic(auto, unfolding(crate::specs::Calls::filled, crate::specs::Calls::lines_after))]
 pub fn pulleybale_fill_lines(
     clock: &[u64; WORDS],
     meter: &[u32],
@@ -131,31 +109,31 @@ pub fn pulleybale_fill_lines(
 {
     let t = clock_words::clock_of(clock);
     match filler::fill_lines(t, meter, nums, dens, tempos, lines) {
-        FillAnswer::Filled => 0,
-        FillAnswer::Refused(why) => number_of(why),
+        Ok(()) => 0,
+        Err(why) => u32::from(why),
     }
 }
 
 // Let so many frames go by.
+#[tactic(auto, unfolding(crate::specs::Calls::advanced_by))]
 pub fn pulleybale_advance(clock: &mut [u64; WORDS], frames: u64, report: &mut u32) -> u32
     ensures value { result ≡ number (advanced_by clock.old frames).answer }
     ensures clock_after { clock.new ≡ clock_after clock.old (advanced_by clock.old frames) }
     ensures report_after { report.new ≡ given moves_flags (advanced_by clock.old frames).answer report.old }
 {
-    let run = clock_words::clock_of(clock).advance(frames);
-    let t = run.transport;
-    let said = run.report;
-    match said {
-        Advance::Moved(wrapped, finished) => {
-            clock_words::place(clock, t);
-            *report = flags_of(wrapped, finished);
+    let moved = clock_words::clock_of(clock).advance(frames);
+    match moved.answer {
+        Ok(moves) => {
+            clock_words::place(clock, moved.transport);
+            *report = flags_of(moves.wrapped, moves.finished);
             0
         }
-        Advance::Unsound => 12,
+        Err(why) => u32::from(why),
     }
 }
 
 // The same, with the cues: the time and the place of each bar line that sounds.
+#[tactic(auto, unfolding(crate::specs::Calls::cued, crate::specs::Calls::cues_after))]
 pub fn pulleybale_cues(
     clock: &mut [u64; WORDS],
     lines: &[u64],
@@ -170,20 +148,14 @@ pub fn pulleybale_cues(
     ensures count_after { count.new ≡ given said_count (cued clock.old lines.now frames cues.old).answer count.old }
     ensures report_after { report.new ≡ given said_flags (cued clock.old lines.now frames cues.old).answer report.old }
 {
-    let run = cues::cue(clock_words::clock_of(clock), lines, frames, cues);
-    let t = run.transport;
-    let said = run.report;
-    match said {
-        CueReport::Cued(wrapped, finished, n) => {
-            clock_words::place(clock, t);
-            *count = n as u64;
-            *report = flags_of(wrapped, finished);
+    let cued = cues::cue(clock_words::clock_of(clock), lines, frames, cues);
+    match cued.answer {
+        Ok(said) => {
+            clock_words::place(clock, cued.transport);
+            *count = said.count as u64;
+            *report = flags_of(said.wrapped, said.finished);
             0
         }
-        CueReport::Unsound => 12,
-        CueReport::TooLong => 4,
-        CueReport::Descend => 11,
-        CueReport::OutOfReach => 10,
-        CueReport::NoRoom => 8,
+        Err(why) => u32::from(why),
     }
 }

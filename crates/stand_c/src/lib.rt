@@ -1,5 +1,6 @@
 // What firmware links: the calls of `stand`, for C and Rust. The C faces are in
 // include/pulleybale.h: a slice is a pointer and a length there, and a clock its eleven words.
+// Stays: each is the twin of `stand`'s, for the C interface: an exported name has a function of its own.
 #![tactic(auto)]
 
 ghost use Rattle.std.specs.Prelude.{◌≡◌};

@@ -6,7 +6,7 @@ pub use Rattle.tempo.proofs.Testing.{finding, walkable}
 pub use Rattle.tempo.proofs.Walking.{no_points, points_step}
 -- a walk over the points from index i on: how it begins, where it ends or stops, and how it goes on
 pub use Rattle.tempo.proofs.Walking.{points_from, begins, ends, stops, goes}
--- no two cases of an answer read alike
-pub use Rattle.tempo.proofs.Readings.{tempos_apart, tests_apart}
+-- lists are a map in one way, or in none
+pub use Rattle.tempo.proofs.Readings.{Made, lists_of, one_map}
 -- seconds never fall as the beat rises; of the tempos only an infinity is excluded
 pub use Rattle.tempo.proofs.Rising.{seconds_up, seconds_at_up, seconds_rise, finite_tempo}

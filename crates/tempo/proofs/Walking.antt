@@ -1,5 +1,6 @@
 -- The part of a map that a walk has left begins with the point that stands next, and so does the part that a test has left.
-use mathlib.Core.Path.{◌≡◌, refl}
+use mathlib.Core.Path.{◌≡◌, refl, ap}
+use Rattle.std.specs.List.{list_all, zip}
 use mathlib.Core.Bool.{Bool, true, false, ◌&&◌}
 use mathlib.Core.List.{List, [], ◌∷◌}
 use Prim.Native.Nat.{ℕ, ◌+◌, ◌≤◌, ◌<◌}
@@ -15,27 +16,17 @@ use Rattle.beats.specs.Frames.{beat_float}
 use Rattle.tempo.specs.Tempos.{TempoPoint, Parallel, tempo_of, tempo_points, elapsed, walk, whole_walk}
 use Rattle.tempo.specs.Answers.{all_beats}
 
--- ---- the test of the beats, with those from index i on left
+-- ---- the test of the beats
 
-abbrev pub beats_from : List ℤ → List ℕ → ℕ → Bool
-beats_from nums dens i = all_beats (drop i nums) (drop i dens)
+abbrev pub is_beat_of : ℤ × ℕ → Bool
+is_beat_of pair = is_beat (record { num = pair.0; den = pair.1 })
 
-module _ (nums : List ℤ) (dens : List ℕ) (even : length dens ≡ length nums) (i : ℕ) (answer : Bool) (here : beats_from nums dens i ≡ answer) where
-  pub none_left : length nums ≤ i → true ≡ answer
-  unfolding all_beats
-  none_left h = rw (drop_of_length-le nums h) at here
-
-  -- the numerator and the test's answer, as the program has them
-  module _ (h : i < length nums) (num : ℤ) (reads : num ≡ get_or nums i (pos 0)) (b : Bool) (is : b ≡ is_beat (record { num = num; den = get_or dens i 0 })) where
-    beats_step : b && beats_from nums dens (i + 1) ≡ answer
-    unfolding all_beats
-    beats_step = let k : i < length dens = omega arith in rw (is, reads, add-one) (rw (drop-cons nums i (pos 0), drop-cons dens i 0) at here)
-
-    pub not_beat : b ≡ false → false ≡ answer
-    not_beat e = rw e at beats_step
-
-    pub next_beat_lem : b ≡ true → beats_from nums dens (i + 1) ≡ answer
-    next_beat_lem e = rw e at beats_step
+-- the pairs of a numerator and its denominator, one after another
+pub all_pairs : (nums : List ℤ) (dens : List ℕ) → list_all is_beat_of (zip nums dens) ≡ all_beats nums dens
+unfolding all_beats
+all_pairs [] dens = refl
+all_pairs (num ∷ nums) [] = refl
+all_pairs (num ∷ nums) (den ∷ dens) = ap (λ b. is_beat (record { num = num; den = den }) && b) (all_pairs nums dens)
 
 -- ---- a walk, with the points from index i on left
 

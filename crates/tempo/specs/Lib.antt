@@ -1,4 +1,4 @@
 pub mod Tempos
 pub mod Answers
-pub mod Readings
 pub mod Rising
+pub mod Maps

@@ -1,31 +1,36 @@
 -- The parts of a signed number's and of a beat's text, and how long they are at most.
-use mathlib.Core.Path.{◌≡◌, refl, sym, ap, ◌∙◌}
+use mathlib.Core.Path.{◌≡◌}
 use mathlib.Core.Bool.{true, false, cond}
 use mathlib.Core.List.{[], ◌∷◌, ◌++◌, append-nil}
-use Prim.Native.Nat.{ℕ, zero, suc, ◌+◌, ◌/◌, ◌^◌, ◌≤◌, ◌<◌}
+use Prim.Native.Nat.{ℕ, zero, suc, ◌/◌, ◌^◌, ◌≤◌, ◌<◌}
 use native.Mathlib.Nat.{pow-suc}
 use native.Mathlib.Omega.{arith}
 use borrow.Author.Tests.{eq-eqb, ne_eqb}
 use lib.Dec.{eqb}
+use borrow.Author.Tests.{ltb-true}
+use lib.Signed.{lt_z}
 use lib.IntN.{ℤ, pos, negsuc, nat_abs}
 use lib.ListN.{length, length-append}
 use mir.Syntax.{w64}
 use mir.Val.{SFits}
 use Rattle.numbers.proofs.Laws.{by_order, cases}
-use Rattle.numbers.specs.Signs.{is_neg}
 use Rattle.beats.specs.declared.Beat.{Beat}
 use Rattle.text.specs.Texts.{decimal, signed_text, beat_text}
+use Rattle.text.specs.declared.page.Page.{Page}
+use Rattle.text.specs.Pages.{Room}
+use Rattle.text.proofs.Pages.{room_first}
 use Rattle.text.proofs.Puts.{digit_length, digits_length}
 
-pub signed_below : (x : ℤ) → is_neg x ≡ true → signed_text x ≡ 45 ∷ decimal (nat_abs x)
+-- the text of a number, by the sign and the magnitude that are worked out of its bits
+pub below_zero : (x z : ℤ) (size : ℕ) → z ≡ x → lt_z z (pos 0) ≡ true → size ≡ nat_abs z → signed_text x ≡ 45 ∷ decimal size
 unfolding signed_text
-signed_below (pos n) e = cc
-signed_below (negsuc n) e = refl
+below_zero (pos n) z size e t m = let t = rw e at t in absurd (omega (arith, ltb-true n 0 t))
+below_zero (negsuc n) z size e t m = rw (m, e)
 
-pub signed_above : (x : ℤ) → is_neg x ≡ false → signed_text x ≡ decimal (nat_abs x)
+pub from_zero : (x z : ℤ) (size : ℕ) → z ≡ x → lt_z z (pos 0) ≡ false → size ≡ nat_abs z → signed_text x ≡ decimal size
 unfolding signed_text
-signed_above (pos n) e = refl
-signed_above (negsuc n) e = cc
+from_zero (pos n) z size e t m = rw (m, e)
+from_zero (negsuc n) z size e t m = let t = rw e at t in cc
 
 module _ (b : Beat) where
   pub beat_whole : b.den ≡ 1 → signed_text b.num ≡ beat_text b
@@ -36,14 +41,10 @@ module _ (b : Beat) where
   unfolding beat_text
   beat_parts n = simp (ne_eqb b.den 1 n)
 
-  pub beat_length : (b.den ≡ 1 → ⊥) → length (beat_text b) ≡ length (signed_text b.num) + (1 + length (decimal b.den))
-  beat_length n = ap length (sym (beat_parts n)) ∙ simp length-append (omega arith)
-
-  pub signed_room : (z : ℤ) (at n : ℕ) → z ≡ b.num → at + length (beat_text b) ≤ n → at + length (signed_text z) ≤ n
+  -- a number's text is the front of the beat's
+  pub beat_front : (z : ℤ) (page : Page) → z ≡ b.num → Room (beat_text b) page → Room (signed_text z) page
   unfolding beat_text
-  signed_room z at n e h =
-      let l = length-append (signed_text b.num) (cond (eqb b.den 1) [] (47 ∷ decimal b.den)) in
-      rw e (omega (arith, l))
+  beat_front z page e room = rw e (room_first (signed_text b.num) (cond (eqb b.den 1) [] (47 ∷ decimal b.den)) page room)
 
 -- ---- the most bytes
 

@@ -4,8 +4,8 @@ use mathlib.Core.List.{List, [], ◌∷◌, ◌++◌, append_assoc}
 use Prim.Native.Nat.{ℕ, zero, suc, ◌+◌, ◌/◌, ◌%◌, ◌≤◌, ◌<◌}
 use native.Mathlib.Omega.{arith}
 use native.Mathlib.Numerals.{add-one}
-use lib.ListN.{length, take, drop, set, get_or, length-append, length-drop, take-append-drop}
-use lib.Seq.{take_at, drop_at, length-take-le, drop-drop, set_split, take-suc, take-length}
+use lib.ListN.{length, take, drop, set, length-append, length-drop, take-append-drop}
+use lib.Seq.{take_at, drop_at, length-take-le, drop-drop, set_split}
 use native.Mathlib.Nat.{add-zero}
 use Rattle.text.specs.Texts.{put, Puts, digits_by, decimal}
 
@@ -93,6 +93,12 @@ digit n h =
     ap (λ (k : ℕ). digits_by n k ++ ((48 + n % 10) ∷ [])) d ∙ ap (λ (l : List ℕ). l ++ ((48 + n % 10) ∷ [])) (no_digits n)
     ∙ ap (λ (k : ℕ). (48 + k) ∷ []) m
 
+-- a number below 10 is its own last digit
+pub only_digit : (n : ℕ) → n < 10 → decimal n ≡ (48 + n % 10) ∷ []
+only_digit n h =
+    let m : n ≡ n % 10 = omega arith in
+    digit n h ∙ ap (λ (k : ℕ). (48 + k) ∷ []) m
+
 first : (n : ℕ) → decimal n ≡ digits_by n (n / 10) ++ ((48 + n % 10) ∷ [])
 unfolding decimal
 first n = refl
@@ -105,16 +111,3 @@ digit_length n h = ap length (digit n h)
 
 pub digits_length : (n : ℕ) → 10 ≤ n → length (decimal n) ≡ length (decimal (n / 10)) + 1
 digits_length n h = ap length (more_digits n h) ∙ length-append (decimal (n / 10)) ((48 + n % 10) ∷ [])
-
--- ---- a copy
-
-pub more_bytes : {at i : ℕ} (s : List ℕ) {out₀ out : List ℕ} → i < length s → at + length s ≤ length out₀ → length out ≡ length out₀
-    → Puts at (take i s) out₀ (at + i) out → Puts at (take (i + 1) s) out₀ (at + (i + 1)) (set out (at + i) (get_or s i 0))
-more_bytes {at} {i} s {out₀} {out} h r e x =
-    let l : length (take i s) ≡ i = length-take-le i s (omega arith) in
-    let n : at + i + 1 ≡ at + (i + 1) = omega arith in
-    let q : take i s ++ (get_or s i 0 ∷ []) ≡ take (i + 1) s = sym (ap (λ (k : ℕ). take k s) (add-one i) ∙ take-suc s i 0 h) in
-    rw n at (retext q (then (omega arith) x (one out (at + i) (get_or s i 0) (omega arith))))
-
-pub all_bytes : {at i : ℕ} {s out₀ out : List ℕ} → i ≡ length s → Puts at (take i s) out₀ (at + i) out → Puts at s out₀ (at + i) out
-all_bytes {at} {i} {s} e x = retext (ap (λ (k : ℕ). take k s) e ∙ take-length s) x

@@ -1,4 +1,6 @@
 // Numbers and beats as text in lent bytes.
 #![tactic(auto)]
 
-pub mod put;
+mod page;
+
+pub use page::Page;

@@ -1,4 +1,5 @@
 // The bytes of a file by hexadecimal digits, two a byte: written by words, and read.
+use crate::commands::AtHand;
 use score::LONGEST;
 use std::io;
 
@@ -17,30 +18,21 @@ fn behind(rt: &impl Print, before: usize, byte: u8) -> io::Result<()> {
     print!(rt; "{byte:02x}")
 }
 
-fn words(rt: &impl Print, file: &[u8]) -> io::Result<()> {
-    let mut k = 0;
-    while k < file.len() {
-        behind(rt, k, file[k])?;
-        k += 1;
-    }
-    Ok(())
-}
-
 // Writes the bytes of a file.
 pub fn write(rt: &impl Print, file: &[u8]) -> io::Result<()> {
-    words(rt, file)?;
+    for (before, byte) in file.iter().enumerate() {
+        behind(rt, before, *byte)?;
+    }
     rt.write_all(b"\n")
 }
 
-// The digit that a byte is, and 16 for one that is none.
-fn digit(byte: u8) -> u8 {
-    if byte >= b'0' && byte <= b'9' {
-        return byte - b'0';
+// The digit that a byte is; a capital letter is none.
+fn digit(byte: u8) -> Option<u8> {
+    match byte {
+        b'0'..=b'9' => Some(byte - b'0'),
+        b'a'..=b'f' => Some(byte - b'a' + 10),
+        _ => None,
     }
-    if byte >= b'a' && byte <= b'f' {
-        return byte - 87;
-    }
-    16
 }
 
 // Two digits: the lower one of a byte, and one behind it.
@@ -48,28 +40,15 @@ fn joined(byte: u8, digit: u8) -> u8 {
     byte % 16 * 16 + digit % 16
 }
 
-// Takes a byte of the line behind so many digits, if it is one.
-fn take(file: &mut [u8; LONGEST], digits: &mut usize, byte: u8) {
-    let d = digit(byte);
-    let n = *digits;
-    if d == 16 {
-        return;
-    }
-    if n < MOST {
-        let place = n / 2;
-        let old = file[place];
-        file[place] = joined(old, d);
-        *digits = n + 1;
-    }
-}
-
-// Makes the bytes that the digits of a line say the score at hand.
-pub fn read(line: &[u8], file: &mut [u8; LONGEST], size: &mut usize) {
+// Makes the bytes that the digits of a line say the score at hand; as many as the longest file has.
+pub fn read(line: &[u8], at_hand: &mut AtHand) {
     let mut digits = 0;
-    let mut k = 0;
-    while k < line.len() {
-        take(file, &mut digits, line[k]);
-        k += 1;
+    for digit in line.iter().filter_map(|byte| digit(*byte)) {
+        if digits < MOST {
+            let byte = &mut at_hand.file[digits / 2];
+            *byte = joined(*byte, digit);
+            digits += 1;
+        }
     }
-    *size = digits / 2;
+    at_hand.size = digits / 2;
 }

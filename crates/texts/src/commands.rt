@@ -1,32 +1,29 @@
-// What each command of a session does with the score at hand, a file and its size.
-use form::FormAnswer;
+// What each command of a session does with the score at hand.
 use score::LONGEST;
 use std::io;
 
-// The bytes from a place up to another, or none where there are not so many.
-pub fn part(bytes: &[u8], from: usize, end: usize) -> &[u8] {
-    if from > end {
-        return &bytes[..0];
+// The score at hand: a file, from the front of the bytes.
+#[derive(Drop)]
+pub struct AtHand {
+    pub file: [u8; LONGEST],
+    pub size: usize,
+}
+
+impl AtHand {
+    // Its bytes, or none where there are not so many.
+    pub fn bytes(&self) -> &[u8] {
+        self.file.get(..self.size).unwrap_or(&[])
     }
-    if end > bytes.len() {
-        return &bytes[..0];
-    }
-    &bytes[from..end]
 }
 
 // Makes the file that a text says the score at hand, and writes its size; or writes what is wrong.
-pub fn make(
-    rt: &impl Print,
-    text: &[u8],
-    file: &mut [u8; LONGEST],
-    size: &mut usize,
-) -> io::Result<()> {
-    match form::read_form(text, file) {
-        FormAnswer::File(n) => {
-            *size = n;
-            println!(rt; "{n} bytes")
+pub fn make(rt: &impl Print, text: &[u8], at_hand: &mut AtHand) -> io::Result<()> {
+    match form::read_form(text, &mut at_hand.file) {
+        Ok(size) => {
+            at_hand.size = size;
+            println!(rt; "{size} bytes")
         }
-        FormAnswer::Wrong(line, reason) => telling::wrong(rt, line, reason),
+        Err(wrong) => telling::wrong(rt, wrong),
     }
 }
 

@@ -16,111 +16,100 @@
 mod bytes;
 mod commands;
 
-use commands::part;
+use commands::AtHand;
 use score::LONGEST;
 use std::io;
 
 // One byte more than the longest session.
 const READ: usize = 131073;
 
-// The letter of a command, behind its colon; 0 for another line.
-fn letter(line: &[u8]) -> u8 {
-    if line.len() < 2 {
-        return 0;
-    }
-    if line[0] == b':' { line[1] } else { 0 }
+// The letter of a command, behind its colon.
+fn letter(line: &[u8]) -> Option<u8> {
+    let letter = *line.strip_prefix(b":")?.first()?;
+    if letter == 0 { None } else { Some(letter) }
 }
 
 // The line from a place on, behind the command's word and a blank.
 fn behind(line: &[u8], from: usize) -> &[u8] {
-    part(line, from, line.len())
+    line.get(from..).unwrap_or(&[])
 }
 
 // All but the last byte.
 fn unended(text: &[u8]) -> &[u8] {
-    if text.len() == 0 {
-        return &text[..0];
-    }
-    part(text, 0, text.len() - 1)
+    &text[..text.len().saturating_sub(1)]
 }
 
-// The commands that write of the score at hand.
-fn said(rt: &impl Print, letter: u8, word: &[u8], file: &[u8]) -> io::Result<()> {
+// Runs the command of a line, behind the text of the lines since the last one.
+fn answer(
+    rt: &impl Print,
+    letter: u8,
+    line: &[u8],
+    text: &[u8],
+    at_hand: &mut AtHand,
+) -> io::Result<()> {
     match letter {
-        b'b' => bytes::write(rt, file),
-        b't' => commands::text(rt, file),
-        b's' => commands::sheet(rt, file),
-        b'c' => commands::count(rt, file, word),
+        b'm' => commands::make(rt, text, at_hand),
+        b'u' => commands::make(rt, unended(text), at_hand),
+        b'l' => commands::make(rt, behind(line, 6), at_hand),
+        b'f' => {
+            bytes::read(behind(line, 6), at_hand);
+            Ok(())
+        }
+        b'b' => bytes::write(rt, at_hand.bytes()),
+        b't' => commands::text(rt, at_hand.bytes()),
+        b's' => commands::sheet(rt, at_hand.bytes()),
+        b'c' => commands::count(rt, at_hand.bytes(), behind(line, 7)),
         _ => Ok(()),
     }
 }
 
-// Those that make another file the score at hand, and the others.
-fn answer(
-    rt: &impl Print,
-    line: &[u8],
-    text: &[u8],
-    file: &mut [u8; LONGEST],
-    size: &mut usize,
-) -> io::Result<()> {
-    let n = *size;
-    match letter(line) {
-        b'm' => commands::make(rt, text, file, size),
-        b'u' => commands::make(rt, unended(text), file, size),
-        b'l' => commands::make(rt, behind(line, 6), file, size),
-        b'f' => {
-            bytes::read(behind(line, 6), file, size);
-            Ok(())
-        }
-        other => said(rt, other, behind(line, 7), part(file, 0, n)),
-    }
+// A session: where the lines since the last command begin, where this line does, and the score at
+// hand.
+#[derive(Drop)]
+struct Session {
+    text: usize,
+    line: usize,
+    at_hand: AtHand,
 }
 
-// Takes the line that ends at a place: a command is answered, and the text begins anew behind it.
-fn turn(
-    rt: &impl Print,
-    session: &[u8],
-    text: &mut usize,
-    line: &mut usize,
-    end: usize,
-    file: &mut [u8; LONGEST],
-    size: &mut usize,
-) -> io::Result<()> {
-    let from = *text;
-    let start = *line;
-    let words = part(session, start, end);
-    if end < READ {
-        *line = end + 1;
-    }
-    if letter(words) != 0 {
-        *text = *line;
-        rt.write_all(words)?;
-        rt.write_all(b"\n")?;
-        answer(rt, words, part(session, from, start), file, size)?;
-    }
-    Ok(())
-}
-
-fn run(rt: &impl Print, session: &[u8], file: &mut [u8; LONGEST]) -> io::Result<()> {
-    let mut text = 0;
-    let mut line = 0;
-    let mut size = 0;
-    let mut place = 0;
-    while place < session.len() {
-        if session[place] == b'\n' {
-            turn(rt, session, &mut text, &mut line, place, file, &mut size)?;
+impl Session {
+    // Takes the line that ends at a place: a command is answered, and the text begins anew behind it.
+    fn turn(&mut self, rt: &impl Print, session: &[u8], end: usize) -> io::Result<()> {
+        let line = session.get(self.line..end).unwrap_or(&[]);
+        let text = session.get(self.text..self.line).unwrap_or(&[]);
+        self.line = end.saturating_add(1);
+        if let Some(letter) = letter(line) {
+            self.text = self.line;
+            rt.write_all(line)?;
+            rt.write_all(b"\n")?;
+            answer(rt, letter, line, text, &mut self.at_hand)?;
         }
-        place += 1;
+        Ok(())
     }
-    Ok(())
+
+    fn run(&mut self, rt: &impl Print, session: &[u8]) -> io::Result<()> {
+        for (place, byte) in session.iter().enumerate() {
+            if *byte == b'\n' {
+                self.turn(rt, session, place)?;
+            }
+        }
+        Ok(())
+    }
 }
 
 fn main(rt: HostRuntime) -> io::Result<()> {
-    let mut session = [0u8; READ];
-    let mut file = [0u8; LONGEST];
-    let n = intake::read_full(&mut rt.stdin(), &mut session)?;
+    let mut bytes = [0u8; READ];
+    let n = intake::read_full(&mut rt.stdin(), &mut bytes)?;
     if n == READ {
         return rt.println("the session is longer than 131072 bytes");
     }
-    run(&rt, &session[..n], &mut file)
+    let mut session = Session {
+        text: 0,
+        line: 0,
+        at_hand: AtHand {
+            file: [0; LONGEST],
+            size: 0,
+        },
+    };
+    session.run(&rt, &bytes[..n])
 }

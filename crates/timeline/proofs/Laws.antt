@@ -7,15 +7,15 @@ use Rattle.tempo.specs.Tempos.{TempoPoint}
 use Rattle.transport.specs.declared.Transport.{Transport}
 use Rattle.timeline.specs.Places.{float_of, seconds_of, frame_at_beat, frame_at_bar}
 -- how a call answers by what was tested
-pub use Rattle.timeline.proofs.Testing.{if_passed, by_test}
+pub use Rattle.timeline.proofs.Testing.{by_test}
 -- what is known of a transport and of maps that passed: sound, and parallel lists
 pub use Rattle.timeline.proofs.Testing.{passes, both_sound, parallel}
 -- seconds where the tempo map has points
 pub use Rattle.timeline.proofs.Tempos.{map_seconds}
+-- a test that hands on the tempo map has one answer
+pub use Rattle.timeline.proofs.Readings.{Tested, one_test}
 -- a sound transport stays sound
 pub use Rattle.timeline.proofs.Sound.{promised}
--- no two cases of an answer read alike
-pub use Rattle.timeline.proofs.Readings.{frames_apart, places_apart}
 
 module _ (t : Transport) (map : List MeterPoint) (points : List TempoPoint) (bar : ℕ) where
   -- the frame of a bar: from its start to a float, to seconds, to frames

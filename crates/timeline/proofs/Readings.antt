@@ -1,32 +1,21 @@
--- No two cases of an answer read alike, since each can be told from its reading. So a contract through a reading has one answer (`one_reading` of numbers).
-use Rattle.std.proofs.Common.{◌≡◌, ℕ, cond, eqb, refl}
-use Rattle.numbers.proofs.Laws.{Apart, apart_cases, case_of}
-use Rattle.timeline.specs.declared.tests.Refusal.{Refusal}
-use Rattle.timeline.specs.declared.tests.Refusal.TheVariants as R
-use Rattle.timeline.specs.declared.FrameAnswer.TheVariants as F
-use Rattle.timeline.specs.declared.PlaceAnswer.TheVariants as P
-use Rattle.timeline.specs.Readings.{read_frame, read_place}
+-- The contract of a test that hands on the tempo map has one answer: the map of the lists that are given, or what refuses it, and never both.
+use Rattle.std.proofs.Common.{◌≡◌, sym, ◌∙◌, List, ℕ, ℤ, Result, Ok, Err, IfOk}
+use Rattle.numbers.specs.declared.refusal.Refusal.{Refusal}
+use Rattle.tempo.specs.declared.map.TempoMap.{TempoMap}
+use Rattle.tempo.proofs.Laws.{lists_of}
+use Rattle.timeline.specs.Tests.{told}
 
-abbrev why_of : ℕ → Refusal
-why_of n = cond (eqb n 12) R.Unsound (cond (eqb n 3) R.Uneven (cond (eqb n 4) R.TooLong R.NotBeat))
+module _ (finding : Result Unit Refusal) (nums : List ℤ) (dens tempos : List ℕ) where
+  -- what it ensures
+  pub record Tested (r : Result TempoMap Refusal) : Type 0 where
+    pub test : told r ≡ finding
+    pub lists : IfOk r (λ map. (map.nums.now ≡ nums) × (map.dens.now ≡ dens) × (map.tempos.now ≡ tempos))
 
-frames_same : (r : F.the_data) → case_of F.Frame (λ n. cond (eqb n 10) F.OutOfReach (F.Refused (why_of n))) (read_frame r) ≡ r
-frames_same (F.Frame x) = refl
-frames_same (F.Refused R.Unsound) = refl
-frames_same (F.Refused R.Uneven) = refl
-frames_same (F.Refused R.TooLong) = refl
-frames_same (F.Refused R.NotBeat) = refl
-frames_same F.OutOfReach = refl
+  one_of : (r s : Result TempoMap Refusal) → Tested r → Tested s → lists_of nums dens tempos r ≡ lists_of nums dens tempos s
+  one_of (Ok a) (Ok b) p q = cc (p.lists.0, p.lists.1, p.lists.2, q.lists.0, q.lists.1, q.lists.2)
+  one_of (Ok a) (Err b) p q = absurd (let e : told {A = TempoMap} (Ok a) ≡ told {A = TempoMap} (Err b) = p.test ∙ sym q.test in cc)
+  one_of (Err a) (Ok b) p q = absurd (let e : told {A = TempoMap} (Err a) ≡ told {A = TempoMap} (Ok b) = p.test ∙ sym q.test in cc)
+  one_of (Err a) (Err b) p q = let e : told {A = TempoMap} (Err a) ≡ told {A = TempoMap} (Err b) = p.test ∙ sym q.test in cc
 
-pub frames_apart : Apart read_frame
-frames_apart = apart_cases read_frame F.Frame (λ n. cond (eqb n 10) F.OutOfReach (F.Refused (why_of n))) frames_same
-
-places_same : (r : P.the_data) → case_of P.Place (λ n. P.Refused (why_of n)) (read_place r) ≡ r
-places_same (P.Place x) = refl
-places_same (P.Refused R.Unsound) = refl
-places_same (P.Refused R.Uneven) = refl
-places_same (P.Refused R.TooLong) = refl
-places_same (P.Refused R.NotBeat) = refl
-
-pub places_apart : Apart read_place
-places_apart = apart_cases read_place P.Place (λ n. P.Refused (why_of n)) places_same
+pub one_test : (finding : Result Unit Refusal) (nums : List ℤ) (dens tempos : List ℕ) (r s : Result TempoMap Refusal) → Tested finding nums dens tempos r → Tested finding nums dens tempos s → lists_of nums dens tempos r ≡ lists_of nums dens tempos s
+one_test finding nums dens tempos r s p q = one_of finding nums dens tempos r s p q

@@ -1,9 +1,9 @@
 -- A sound transport stays sound: a refusal hands back the old one, and an accepted change is one of the crate transport's.
-use Rattle.std.proofs.Common.{◌≡◌, ℕ, Bool, true, false, cond, List, [], ℤ}
+use Rattle.std.proofs.Common.{◌≡◌, ℕ, Bool, true, false, cond, List, [], ℤ, Result, Ok, Err}
 use Rattle.numbers.specs.Answers.{Answer, accepted, refused}
 use Rattle.meter.specs.Meters.{points_of}
-use Rattle.tempo.specs.declared.MapTest.{MapTest}
-use Rattle.tempo.specs.declared.MapTest.TheVariants.{Fine, Uneven, TooLong, NotBeat}
+use Rattle.numbers.specs.declared.refusal.Refusal.{Refusal}
+use Rattle.numbers.specs.Refusals.{number_of, facts_of}
 use Rattle.tempo.specs.Tempos.{tempo_points}
 use Rattle.tempo.specs.Answers.{map_test}
 use Rattle.transport.specs.declared.Transport.{Transport}
@@ -15,17 +15,15 @@ use Rattle.timeline.specs.Tests.{maps_test, if_tested}
 use Rattle.timeline.specs.Promise.{StaysSound, Promised}
 
 module _ (t : Transport) (is : sound t ≡ true) where
-  handed_back : (q : Bool) (number : ℕ) → sound (handed t (cond q (refused number []) (refused 12 []))).transport ≡ true
-  handed_back true number = is
-  handed_back false number = is
+  handed_back : (q : Bool) (number : ℕ) (facts : List ℕ) → sound (handed t (cond q (refused number facts) (refused 12 []))).transport ≡ true
+  handed_back true number facts = is
+  handed_back false number facts = is
 
   -- a change that keeps it sound by itself does so behind the test of the maps
-  kept : (finding : MapTest) (change : Answer Transport) → sound (if_sound t change).transport ≡ true → sound (handed t (if_tested t finding change)).transport ≡ true
+  kept : (finding : Result Unit Refusal) (change : Answer Transport) → sound (if_sound t change).transport ≡ true → sound (handed t (if_tested t finding change)).transport ≡ true
   unfolding if_tested
-  kept Fine change h = h
-  kept Uneven change h = handed_back (sound t) 3
-  kept TooLong change h = handed_back (sound t) 4
-  kept NotBeat change h = handed_back (sound t) 1
+  kept (Ok u) change h = h
+  kept (Err why) change h = handed_back (sound t) (number_of why) (facts_of why)
 
   module _ (words : List ℕ) (nums : List ℤ) (dens tempos : List ℕ) where
     abbrev bar_frame : ℕ → ℕ

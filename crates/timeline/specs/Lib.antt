@@ -1,5 +1,4 @@
 pub mod Places
 pub mod Tests
 pub mod Answers
-pub mod Readings
 pub mod Promise

@@ -1,13 +1,13 @@
-// Beats and bars to frames and back, over lists that were tested: binary64 operations, each rounded
+// Beats and bars to frames and back, over maps that were tested: binary64 operations, each rounded
 // once, in the order of document 01.
 ghost use Rattle.std.specs.Prelude.{◌≡◌};
 ghost use Rattle.meter.specs.Meters.{points_of};
-ghost use Rattle.tempo.specs.Tempos.{Parallel, tempo_points};
+ghost use Rattle.tempo.specs.Maps.{points};
 ghost use Rattle.timeline.specs.Places.{own_tempo, seconds_of, beats_of, frame_at_beat, beat_at_frame, frame_at_bar, position_beats, next_beat, nearest_beat, current_bar, within, position_bars, grid_bar, next_grid_bar};
 
 use beats::{Beat, frames, sums};
-use meter::{bars, count};
-use tempo::walks;
+use meter::bars::MeterMap;
+use tempo::TempoMap;
 use transport::Transport;
 
 // The transport's own tempo, and 1 where it is below 1 or a NaN.
@@ -18,77 +18,79 @@ fn own_tempo(bpm: f32) -> f64
 }
 
 // The seconds at a beat: through the map, or at the own tempo where it has no points.
-fn seconds_of(bpm: f32, beat: f64, nums: &[i64], dens: &[u32], tempos: &[u32]) -> f64
-    requires { Parallel nums.now dens.now tempos.now }
-    ensures { result ≡ seconds_of bpm (tempo_points nums.now dens.now tempos.now) beat }
+#[tactic(auto, using(crate::proofs::Tempos::own_seconds, crate::proofs::Tempos::map_seconds))]
+fn seconds_of(bpm: f32, beat: f64, map: &TempoMap) -> f64
+    ensures { result ≡ seconds_of bpm (points map.now) beat }
 {
-    if nums.len() == 0 {
+    if map.is_empty() {
         frames::seconds_at(beat, own_tempo(bpm))
     } else {
-        walks::seconds_at(nums, dens, tempos, beat)
+        map.seconds_at(beat)
     }
 }
 
 // The beat at a second, likewise.
-fn beats_of(bpm: f32, seconds: f64, nums: &[i64], dens: &[u32], tempos: &[u32]) -> f64
-    requires { Parallel nums.now dens.now tempos.now }
-    ensures { result ≡ beats_of bpm (tempo_points nums.now dens.now tempos.now) seconds }
+#[tactic(auto, using(crate::proofs::Tempos::own_beats, crate::proofs::Tempos::map_beats))]
+fn beats_of(bpm: f32, seconds: f64, map: &TempoMap) -> f64
+    ensures { result ≡ beats_of bpm (points map.now) seconds }
 {
-    if nums.len() == 0 {
+    if map.is_empty() {
         seconds * own_tempo(bpm) / 60.0
     } else {
-        walks::beat_at(nums, dens, tempos, seconds)
+        map.beat_at(seconds)
     }
 }
 
-pub fn frame_at_beat(t: Transport, beat: f64, nums: &[i64], dens: &[u32], tempos: &[u32]) -> u64
-    requires { Parallel nums.now dens.now tempos.now }
-    ensures { result ≡ frame_at_beat t (tempo_points nums.now dens.now tempos.now) beat }
+// The meter map that the words are for a transport.
+fn meter_map(t: Transport, words: &[u32]) -> MeterMap<'_>
+    ensures { result ≡ record { words = words.entry; default = t.beats_per_bar; pickup = t.pickup } }
 {
-    frames::frames_at(seconds_of(t.bpm, beat, nums, dens, tempos), t.sample_rate)
+    MeterMap {
+        words,
+        default: t.beats_per_bar,
+        pickup: t.pickup,
+    }
 }
 
-pub fn beat_at_frame(t: Transport, frame: u64, nums: &[i64], dens: &[u32], tempos: &[u32]) -> f64
-    requires { Parallel nums.now dens.now tempos.now }
-    ensures { result ≡ beat_at_frame t (tempo_points nums.now dens.now tempos.now) frame }
+#[tactic(auto, unfolding(crate::specs::Places::frame_at_beat))]
+pub fn frame_at_beat(t: Transport, beat: f64, map: &TempoMap) -> u64
+    ensures { result ≡ frame_at_beat t (points map.now) beat }
+{
+    frames::frames_at(seconds_of(t.bpm, beat, map), t.sample_rate)
+}
+
+#[tactic(auto, unfolding(crate::specs::Places::beat_at_frame))]
+pub fn beat_at_frame(t: Transport, frame: u64, map: &TempoMap) -> f64
+    ensures { result ≡ beat_at_frame t (points map.now) frame }
 {
     let rate = t.sample_rate;
-    let seconds = std::num::nearest_u64_to_f64(frame) / (rate as f64);
-    beats_of(t.bpm, seconds, nums, dens, tempos)
+    let seconds = std::num::nearest_u64_to_f64(frame) / f64::from(rate);
+    beats_of(t.bpm, seconds, map)
 }
 
-pub fn frame_at_bar(
-    t: Transport,
-    bar: u32,
-    words: &[u32],
-    nums: &[i64],
-    dens: &[u32],
-    tempos: &[u32],
-) -> u64
-    requires { Parallel nums.now dens.now tempos.now }
-    ensures { result ≡ frame_at_bar t (points_of words.now) (tempo_points nums.now dens.now tempos.now) bar }
+#[tactic(auto, unfolding(crate::specs::Places::frame_at_bar))]
+pub fn frame_at_bar(t: Transport, bar: u32, words: &[u32], map: &TempoMap) -> u64
+    ensures { result ≡ frame_at_bar t (points_of words.now) (points map.now) bar }
 {
-    let pickup = t.pickup;
-    let start = bars::start(words, t.beats_per_bar, pickup, bar);
-    frame_at_beat(t, frames::float_of(start), nums, dens, tempos)
+    let start = meter_map(t, words).start(bar);
+    frame_at_beat(t, frames::float_of(start), map)
 }
 
-pub fn position_beats(t: Transport, nums: &[i64], dens: &[u32], tempos: &[u32]) -> f64
-    requires { Parallel nums.now dens.now tempos.now }
-    ensures { result ≡ position_beats t (tempo_points nums.now dens.now tempos.now) }
+pub fn position_beats(t: Transport, map: &TempoMap) -> f64
+    ensures { result ≡ position_beats t (points map.now) }
 {
-    beat_at_frame(t, t.position, nums, dens, tempos)
+    beat_at_frame(t, t.position, map)
 }
 
-pub fn next_beat(t: Transport, nums: &[i64], dens: &[u32], tempos: &[u32]) -> u64
-    requires { Parallel nums.now dens.now tempos.now }
-    ensures { result ≡ next_beat t (tempo_points nums.now dens.now tempos.now) }
+pub fn next_beat(t: Transport, map: &TempoMap) -> u64
+    ensures { result ≡ next_beat t (points map.now) }
 {
-    let beat = rounding::floor(position_beats(t, nums, dens, tempos)) + 1.0;
-    frame_at_beat(t, beat, nums, dens, tempos)
+    let beat = rounding::floor(position_beats(t, map)) + 1.0;
+    frame_at_beat(t, beat, map)
 }
 
 // The beat nearest to a float, in thousand millionths.
+#[tactic(auto, unfolding(crate::specs::Places::nearest_beat))]
 fn nearest_beat(x: f64) -> Beat
     ensures { result ≡ nearest_beat x }
 {
@@ -96,6 +98,7 @@ fn nearest_beat(x: f64) -> Beat
 }
 
 // How much of a bar has gone by, 0 where it lasts no time.
+#[tactic(auto, unfolding(crate::specs::Places::within))]
 fn part_of(beat: Beat, start: Beat, len: Beat) -> f64
     ensures { result ≡ within beat start len }
 {
@@ -109,45 +112,32 @@ fn part_of(beat: Beat, start: Beat, len: Beat) -> f64
 fn current_bar(t: Transport, beat: Beat, words: &[u32]) -> u32
     ensures { result ≡ current_bar t (points_of words.now) beat }
 {
-    let pickup = t.pickup;
-    let gone = count::elapsed(words, t.beats_per_bar, pickup, beat);
-    if gone == 0 { 0 } else { gone - 1 }
+    meter_map(t, words).elapsed(beat).saturating_sub(1)
 }
 
-pub fn position_bars(t: Transport, words: &[u32], nums: &[i64], dens: &[u32], tempos: &[u32]) -> f64
-    requires { Parallel nums.now dens.now tempos.now }
-    ensures { result ≡ position_bars t (points_of words.now) (tempo_points nums.now dens.now tempos.now) }
+pub fn position_bars(t: Transport, words: &[u32], map: &TempoMap) -> f64
+    ensures { result ≡ position_bars t (points_of words.now) (points map.now) }
 {
-    let pickup = t.pickup;
-    let beat = nearest_beat(position_beats(t, nums, dens, tempos));
+    let beat = nearest_beat(position_beats(t, map));
     let bar = current_bar(t, beat, words);
-    let start = bars::start(words, t.beats_per_bar, pickup, bar);
-    let len = bars::length(words, t.beats_per_bar, pickup, bar);
-    (bar as f64) + rounding::clamp_f64(part_of(beat, start, len), 0.0, 1.0)
+    let meters = meter_map(t, words);
+    let start = meters.start(bar);
+    let len = meters.length(bar);
+    f64::from(bar) + rounding::clamp_f64(part_of(beat, start, len), 0.0, 1.0)
 }
 
 // The first bar after `bar` on a grid of `every` bars, 0 counting as 1.
 fn grid_bar(bar: u32, every: u32) -> u64
     ensures { result ≡ grid_bar bar every }
 {
-    if every == 0 {
-        return bar as u64 + 1;
-    }
-    (bar as u64 / every as u64 + 1) * (every as u64)
+    let step = u64::from(every.max(1));
+    (u64::from(bar) / step + 1) * step
 }
 
 // The bar of the next line after the position, on such a grid.
-pub fn next_grid_bar(
-    t: Transport,
-    every: u32,
-    words: &[u32],
-    nums: &[i64],
-    dens: &[u32],
-    tempos: &[u32],
-) -> u64
-    requires { Parallel nums.now dens.now tempos.now }
-    ensures { result ≡ next_grid_bar t (points_of words.now) (tempo_points nums.now dens.now tempos.now) every }
+pub fn next_grid_bar(t: Transport, every: u32, words: &[u32], map: &TempoMap) -> u64
+    ensures { result ≡ next_grid_bar t (points_of words.now) (points map.now) every }
 {
-    let bars = position_bars(t, words, nums, dens, tempos);
+    let bars = position_bars(t, words, map);
     grid_bar(rounding::cut_to_u32(rounding::floor(bars)), every)
 }

@@ -1,102 +1,97 @@
 // What is tested before a walk: 12 of the transport, then 3, 4 and 1 of the lists, each number for
 // all lists before the next.
-ghost use Rattle.std.specs.Prelude.{◌≡◌};
+ghost use Rattle.std.specs.Prelude.{◌≡◌, ℕ, IfOk};
 ghost use Rattle.tempo.specs.Answers.{map_test};
-ghost use Rattle.timeline.specs.Tests.{worse, words_test, tested, test_of, maps_test, report_of};
-ghost use Rattle.transport.specs.Readings.{refused_by};
+ghost use Rattle.timeline.specs.Tests.{rank, worse, words_test, test_of, maps_test, told, handed_by};
 
-use tempo::MapTest;
-use transport::{Changed, Report, Transport, change};
-
-#[derive(Clone, Copy)]
-pub enum Refusal {
-    Unsound,
-    Uneven,
-    TooLong,
-    NotBeat,
-}
-
-#[derive(Clone, Copy)]
-pub enum Test {
-    Sound,
-    Refused(Refusal),
-}
+use numbers::Refusal;
+use tempo::TempoMap;
+use transport::{Handed, Transport, change};
 
 // The flat words of a meter map.
-pub fn words_test(words: &[u32]) -> MapTest
+// Stays: the wrong edits of words_test turn these lines; meter tests its words together with a pickup.
+pub fn words_test(words: &[u32]) -> Result<(), Refusal>
     ensures { result ≡ words_test words.now }
 {
     if words.len() % 3 != 0 {
-        return MapTest::Uneven;
+        return Err(Refusal::Uneven);
     }
     if words.len() > meter::MOST_WORDS {
-        return MapTest::TooLong;
+        return Err(Refusal::TooLong);
     }
-    MapTest::Fine
+    Ok(())
 }
 
-// Of two findings the one whose number comes first.
-pub fn worse(a: MapTest, b: MapTest) -> MapTest
+// How early a refusal of lists comes: 3, then 4, then any other.
+fn rank(why: Refusal) -> u8
+    ensures { result ≡ rank why }
+{
+    match why {
+        Refusal::Uneven => 0,
+        Refusal::TooLong => 1,
+        _ => 2,
+    }
+}
+
+// Of two findings the one whose refusal comes first.
+pub fn worse(a: Result<(), Refusal>, b: Result<(), Refusal>) -> Result<(), Refusal>
     ensures { result ≡ worse a b }
 {
-    match a {
-        MapTest::Uneven => MapTest::Uneven,
-        MapTest::Fine => b,
-        MapTest::TooLong => match b {
-            MapTest::Uneven => MapTest::Uneven,
-            MapTest::Fine => MapTest::TooLong,
-            MapTest::TooLong => MapTest::TooLong,
-            MapTest::NotBeat => MapTest::TooLong,
-        },
-        MapTest::NotBeat => match b {
-            MapTest::Uneven => MapTest::Uneven,
-            MapTest::Fine => MapTest::NotBeat,
-            MapTest::TooLong => MapTest::TooLong,
-            MapTest::NotBeat => MapTest::NotBeat,
-        },
+    match (a, b) {
+        (Ok(()), _) => b,
+        (_, Ok(())) => a,
+        (Err(why), Err(other)) => Err(if rank(why) <= rank(other) { why } else { other }),
     }
 }
 
-// What was found, as a refusal.
-pub fn found(finding: MapTest) -> Test
-    ensures { result ≡ tested finding }
+// 12, then what was found of the lists.
+#[tactic(auto, unfolding(crate::specs::Tests::test_of))]
+pub fn found(t: Transport, finding: Result<(), Refusal>) -> Result<(), Refusal>
+    ensures { result ≡ test_of t finding }
 {
-    match finding {
-        MapTest::Fine => Test::Sound,
-        MapTest::Uneven => Test::Refused(Refusal::Uneven),
-        MapTest::TooLong => Test::Refused(Refusal::TooLong),
-        MapTest::NotBeat => Test::Refused(Refusal::NotBeat),
+    if !t.is_sound() {
+        return Err(Refusal::Unsound);
     }
+    finding
 }
 
 // A transport with a tempo map.
-pub fn tempo_test(t: Transport, nums: &[i64], dens: &[u32], tempos: &[u32]) -> Test
-    ensures { result ≡ test_of t (map_test nums.now dens.now tempos.now) }
+#[tactic(auto, using(tempo::proofs::Testing::finding, crate::proofs::Testing::tempo_parallel))]
+pub fn tempo_test<'a>(
+    t: Transport,
+    nums: &'a [i64],
+    dens: &'a [u32],
+    tempos: &'a [u32],
+) -> Result<TempoMap<'a>, Refusal>
+    ensures test { told result ≡ test_of t (map_test nums.now dens.now tempos.now) }
+    ensures lists { IfOk result (λ map. (map.nums.now ≡ nums.now) × (map.dens.now ≡ dens.now) × (map.tempos.now ≡ tempos.now)) }
 {
-    if !t.is_sound() {
-        return Test::Refused(Refusal::Unsound);
-    }
-    found(tempo::test(nums, dens, tempos))
+    found(t, tempo::test(nums, dens, tempos))?;
+    Ok(TempoMap { nums, dens, tempos })
 }
 
 // A transport with both maps.
-pub fn maps_test(t: Transport, words: &[u32], nums: &[i64], dens: &[u32], tempos: &[u32]) -> Test
-    ensures { result ≡ test_of t (maps_test words.now nums.now dens.now tempos.now) }
+#[tactic(auto, unfolding(crate::specs::Tests::maps_test), using(tempo::proofs::Testing::finding, crate::proofs::Testing::maps_parallel))]
+pub fn maps_test<'a>(
+    t: Transport,
+    words: &[u32],
+    nums: &'a [i64],
+    dens: &'a [u32],
+    tempos: &'a [u32],
+) -> Result<TempoMap<'a>, Refusal>
+    ensures test { told result ≡ test_of t (maps_test words.now nums.now dens.now tempos.now) }
+    ensures lists { IfOk result (λ map. (map.nums.now ≡ nums.now) × (map.dens.now ≡ dens.now) × (map.tempos.now ≡ tempos.now)) }
 {
-    if !t.is_sound() {
-        return Test::Refused(Refusal::Unsound);
-    }
-    found(worse(words_test(words), tempo::test(nums, dens, tempos)))
+    found(t, worse(words_test(words), tempo::test(nums, dens, tempos)))?;
+    Ok(TempoMap { nums, dens, tempos })
 }
 
-// A refused change hands back the old transport.
-pub fn handed_back(t: Transport, why: Refusal) -> Changed
-    ensures { result ≡ refused_by t (report_of why) }
+// The new transport; where the change is refused, the old one.
+pub fn handed_back(t: Transport, new: Result<Transport, Refusal>) -> Handed<()>
+    ensures { result ≡ handed_by t new }
 {
-    match why {
-        Refusal::Unsound => change::refused(t, Report::Unsound),
-        Refusal::Uneven => change::refused(t, Report::Uneven),
-        Refusal::TooLong => change::refused(t, Report::TooLong),
-        Refusal::NotBeat => change::refused(t, Report::NotBeat),
+    match new {
+        Ok(new) => change::done(new),
+        Err(why) => change::refused(t, why),
     }
 }

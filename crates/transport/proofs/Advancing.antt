@@ -58,7 +58,7 @@ module _ (t : Transport) where
   came_keeps (Wrapped frame) = refl
   came_keeps Ended = refl
 
-  came_plays : (place : Stands) → playing (came t place).transport.state ≡ not (came t place).finished
+  came_plays : (place : Stands) → playing (came t place).transport.state ≡ not (came t place).moves.finished
   came_plays (At frame) = refl
   came_plays (Wrapped frame) = refl
   came_plays Ended = refl
@@ -74,8 +74,8 @@ module _ (t : Transport) where
     advanced_keeps = by_playing t frames (λ (r : Run). r.transport ≡ moved_to t r.transport.position r.transport.state) (λ p. came_keeps (place_after t frames)) (λ p. refl)
 
     -- it still plays if it did and has not finished
-    pub advanced_plays : playing (advanced t frames).transport.state ≡ (playing t.state && not (advanced t frames).finished)
-    advanced_plays = by_playing t frames (λ (r : Run). playing r.transport.state ≡ (playing t.state && not r.finished))
+    pub advanced_plays : playing (advanced t frames).transport.state ≡ (playing t.state && not (advanced t frames).moves.finished)
+    advanced_plays = by_playing t frames (λ (r : Run). playing r.transport.state ≡ (playing t.state && not r.moves.finished))
         (λ p. rw p (came_plays (place_after t frames))) (λ p. rw p)
 
     -- it never comes past the sum

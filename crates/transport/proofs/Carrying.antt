@@ -8,7 +8,7 @@ use native.Mathlib.Omega.{arith}
 use borrow.Author.Tests.{le-leb, lt-leb}
 use Rattle.numbers.proofs.Laws.{by_order}
 use Rattle.transport.specs.declared.LoopRange.{LoopRange}
-use Rattle.transport.specs.declared.LoopRange.TheVariants.{Off, On}
+use Rattle.std.specs.Prelude.{Option, Some, None}
 use Rattle.transport.specs.declared.playhead.Stands.{Stands}
 use Rattle.transport.specs.declared.playhead.Stands.TheVariants.{At, Wrapped, Ended}
 use Rattle.transport.specs.Transports.{sound_loop}
@@ -16,7 +16,7 @@ use Rattle.transport.specs.Advances.{fold, standing}
 use Rattle.transport.proofs.Loops.{loop_starts, loop_ends, fold_lt, fold_within, fold_more}
 
 -- a playhead at a position, after a frames and after b more
-pub data Carried (length : ℕ) (looping : LoopRange) (position a b : ℕ) : Type 0 where
+pub data Carried (length : ℕ) (looping : Option LoopRange) (position a b : ℕ) : Type 0 where
   -- it goes on: what is left is the run of b frames from there
   went : position + a < length → standing length looping (position + a) ≡ At (position + a) → standing length looping (position + (a + b)) ≡ standing length looping ((position + a) + b)
       → Carried length looping position a b
@@ -29,17 +29,17 @@ pub data Carried (length : ℕ) (looping : LoopRange) (position a b : ℕ) : Typ
 -- ---- where a frame stands, by the tests
 
 module _ (length frame : ℕ) where
-  stands_off : frame < length → standing length Off frame ≡ At frame
+  stands_off : frame < length → standing length None frame ≡ At frame
   stands_off h = simp (lt-leb _ _ h)
 
-  stands_ended : length ≤ frame → standing length Off frame ≡ Ended
+  stands_ended : length ≤ frame → standing length None frame ≡ Ended
   stands_ended h = simp (le-leb _ _ h)
 
 module _ (length start end frame : ℕ) where
-  stands_before : end ≤ length → frame < end → standing length (On start end) frame ≡ At frame
+  stands_before : end ≤ length → frame < end → standing length (Some (record { start = start; end = end })) frame ≡ At frame
   stands_before k h = simp (lt-leb _ _ h, lt-leb length frame (omega arith))
 
-  stands_folded : end ≤ frame → standing length (On start end) frame ≡ Wrapped (fold start end frame)
+  stands_folded : end ≤ frame → standing length (Some (record { start = start; end = end })) frame ≡ Wrapped (fold start end frame)
   stands_folded h = simp (le-leb _ _ h)
 
 -- ---- where a playhead is
@@ -50,25 +50,25 @@ place_of length (Wrapped frame) = frame
 place_of length Ended = length
 
 -- at most at the length, and at most at the frame that it was carried to
-pub stands_within : (length : ℕ) (looping : LoopRange) (frame : ℕ) → sound_loop length looping ≡ true → place_of length (standing length looping frame) ≤ min frame length
-stands_within length Off frame is = by_order frame length (λ h. rw (stands_off length frame h) (omega arith)) (λ h. rw (stands_ended length frame h) (omega arith))
-stands_within length (On start end) frame is =
-    let k : end ≤ length = loop_ends length start end is in
-    by_order frame end
-    (λ h. rw (stands_before length start end frame k h) (omega arith))
-    (λ h. rw (stands_folded length start end frame h) (omega (arith, fold_lt start end frame (loop_starts length start end is))))
+pub stands_within : (length : ℕ) (looping : Option LoopRange) (frame : ℕ) → sound_loop length looping ≡ true → place_of length (standing length looping frame) ≤ min frame length
+stands_within length None frame is = by_order frame length (λ h. rw (stands_off length frame h) (omega arith)) (λ h. rw (stands_ended length frame h) (omega arith))
+stands_within length (Some range) frame is =
+    let k : range.end ≤ length = loop_ends length range.start range.end is in
+    by_order frame range.end
+    (λ h. rw (stands_before length range.start range.end frame k h) (omega arith))
+    (λ h. rw (stands_folded length range.start range.end frame h) (omega (arith, fold_lt range.start range.end frame (loop_starts length range.start range.end is))))
 
 -- ---- the cases
 
 module _ (length position a b : ℕ) where
-  carried_off : Carried length Off position a b
+  carried_off : Carried length None position a b
   carried_off = by_order (position + a) length
-      (λ h. went h (stands_off length (position + a) h) (ap (standing length Off) (sym (add_assoc position a b))))
+      (λ h. went h (stands_off length (position + a) h) (ap (standing length None) (sym (add_assoc position a b))))
       (λ h. over h (stands_ended length (position + a) h) (stands_ended length (position + (a + b)) (omega arith)))
 
-  carried_on : (start end : ℕ) → start < end → end ≤ length → Carried length (On start end) position a b
+  carried_on : (start end : ℕ) → start < end → end ≤ length → Carried length (Some (record { start = start; end = end })) position a b
   carried_on start end h k = by_order (position + a) end
-      (λ before. went (omega arith) (stands_before length start end (position + a) k before) (ap (standing length (On start end)) (sym (add_assoc position a b))))
+      (λ before. went (omega arith) (stands_before length start end (position + a) k before) (ap (standing length (Some (record { start = start; end = end }))) (sym (add_assoc position a b))))
       (λ past. folded (at (position + a)) (at (position + (a + b))) (omega (arith, inside past)) (omega (arith, inside past)) (stands_folded length start end (position + a) past)
       (stands_folded length start end (position + (a + b)) (omega arith)) (then past))
     where
@@ -82,11 +82,11 @@ module _ (length position a b : ℕ) where
       same past = fold_more start end (position + a) h b (omega arith) ∙ ap at (add_assoc position a b)
 
       then : end ≤ position + a
-          → (standing length (On start end) (at (position + a) + b) ≡ At (at (position + (a + b)))) ⊎ (standing length (On start end) (at (position + a) + b) ≡ Wrapped (at (position + (a + b))))
+          → (standing length (Some (record { start = start; end = end })) (at (position + a) + b) ≡ At (at (position + (a + b)))) ⊎ (standing length (Some (record { start = start; end = end })) (at (position + a) + b) ≡ Wrapped (at (position + (a + b))))
       then past = by_order (at (position + a) + b) end
           (λ short. inl (stands_before length start end (at (position + a) + b) k short ∙ ap At (sym (fold_within start end (at (position + a) + b) h (omega arith) short) ∙ same past)))
           (λ long. inr (stands_folded length start end (at (position + a) + b) long ∙ ap Wrapped (same past)))
 
-pub carried : (length : ℕ) (looping : LoopRange) (position a b : ℕ) → sound_loop length looping ≡ true → Carried length looping position a b
-carried length Off position a b is = carried_off length position a b
-carried length (On start end) position a b is = carried_on length position a b start end (loop_starts length start end is) (loop_ends length start end is)
+pub carried : (length : ℕ) (looping : Option LoopRange) (position a b : ℕ) → sound_loop length looping ≡ true → Carried length looping position a b
+carried length None position a b is = carried_off length position a b
+carried length (Some range) position a b is = carried_on length position a b range.start range.end (loop_starts length range.start range.end is) (loop_ends length range.start range.end is)

@@ -4,16 +4,16 @@ use mathlib.Core.Bool.{Bool, true, false, cond}
 use mathlib.Core.List.{[]}
 use Prim.Native.Nat.{ℕ}
 use Rattle.numbers.specs.Answers.{Answer, refused}
-use Rattle.transport.specs.declared.Report.TheVariants.{Unsound}
+use Rattle.numbers.specs.declared.refusal.Refusal.TheVariants.{Unsound}
 use Rattle.transport.specs.declared.Transport.{Transport}
 use Rattle.transport.specs.Transports.{sound}
 use Rattle.transport.specs.Changes.{Handed, handed, if_sound}
 use Rattle.transport.specs.Advances.{Moves, moves_of, advanced, advance_answer}
-use Rattle.transport.specs.Readings.{read_changed, refused_by}
+use Rattle.transport.specs.Readings.{read_handed, refused_by}
 
 -- a change
 module _ (t : Transport) (change : Answer Transport) where
-  pub unfit : sound t ≡ false → read_changed (refused_by t Unsound) ≡ if_sound t change
+  pub unfit : sound t ≡ false → read_handed (refused_by t Unsound) ≡ if_sound t change
   unfit e = sym (ap (λ (q : Bool). handed t (cond q change (refused 12 []))) e)
 
   pub fit : sound t ≡ true → handed t change ≡ if_sound t change

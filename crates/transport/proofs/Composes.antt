@@ -21,16 +21,16 @@ use Rattle.transport.proofs.Advancing.{plays_on, plays_from, stays_put}
 
 -- ---- two advances
 
-moves_are : (r : Run) {t : Transport} {w f : Bool} → r.transport ≡ t → r.wrapped ≡ w → r.finished ≡ f → moves_of r ≡ moving t (w, f)
+moves_are : (r : Run) {t : Transport} {w f : Bool} → r.transport ≡ t → r.moves.wrapped ≡ w → r.moves.finished ≡ f → moves_of r ≡ moving t (w, f)
 moves_are r p q s = rw (p, q, s)
 
 -- from what the three runs are: the first, the second and the whole
 composes_by : (t : Transport) (a b : ℕ) (first second whole : Run) → advanced t a ≡ first → advanced first.transport b ≡ second → advanced t (a + b) ≡ whole
-    → whole.transport ≡ second.transport → whole.wrapped ≡ (first.wrapped || second.wrapped) → whole.finished ≡ (first.finished || second.finished) → Composes t a b
+    → whole.transport ≡ second.transport → whole.moves.wrapped ≡ (first.moves.wrapped || second.moves.wrapped) → whole.moves.finished ≡ (first.moves.finished || second.moves.finished) → Composes t a b
 composes_by t a b first second whole one two all e w f = record {
   ends = ap (λ (r : Run). r.transport) all ∙ e ∙ sym (ap (λ (r : Run). r.transport) then);
-  wraps = said (λ (r : Run). r.wrapped) w;
-  finishes = said (λ (r : Run). r.finished) f;
+  wraps = said (λ (r : Run). r.moves.wrapped) w;
+  finishes = said (λ (r : Run). r.moves.finished) f;
 }
   where
     then : advanced (advanced t a).transport b ≡ second
@@ -77,8 +77,8 @@ module _ (t : Transport) (a b : ℕ) where
     calls_compose = record {
       between = first.transport;
       last = second.transport;
-      one = (first.wrapped, first.finished);
-      two = (second.wrapped, second.finished);
+      one = (first.moves.wrapped, first.moves.finished);
+      two = (second.moves.wrapped, second.moves.finished);
       first = sym (advance_fit t a is);
       second = sym (advance_fit first.transport b (advanced_sound t is a));
       whole = sym (advance_fit t (a + b) is) ∙ moves_are (advanced t (a + b)) composes.ends composes.wraps composes.finishes;

@@ -11,5 +11,5 @@ pub use Rattle.transport.proofs.Advancing.{plays_on, stays_put, advanced_keeps, 
 pub use Rattle.transport.proofs.Cases.{advance_fit}
 -- an advance by a and then by b is an advance by a + b; and all that is promised
 pub use Rattle.transport.proofs.Composes.{composes, promised}
--- no two cases of an answer read alike
-pub use Rattle.transport.proofs.Readings.{made_apart, reports_apart, changed_apart, advances_apart, advanced_apart}
+-- no two answers that a call hands back read alike
+pub use Rattle.transport.proofs.Readings.{handed_apart, moves_apart, advanced_apart}

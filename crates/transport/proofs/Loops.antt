@@ -9,7 +9,7 @@ use borrow.Author.Tests.{ltb-true, leb-true}
 use Rattle.numbers.proofs.Laws.{and_left, and_right}
 use Rattle.meter.specs.Meters.{sound_pickup}
 use Rattle.transport.specs.declared.LoopRange.{LoopRange}
-use Rattle.transport.specs.declared.LoopRange.TheVariants.{On}
+use Rattle.std.specs.Prelude.{Option, Some}
 use Rattle.transport.specs.declared.Transport.{Transport}
 use Rattle.transport.specs.Transports.{good_loop, sound_loop, sound}
 use Rattle.transport.specs.Advances.{fold}
@@ -23,7 +23,7 @@ module _ (length start end : ℕ) (good : good_loop length start end ≡ true) w
   loop_ends = leb-true end length (and_right (ltb start end) (leb end length) good)
 
 -- the same of a sound loop that is on
-pub on_sound : (length : ℕ) (looping : LoopRange) (start end : ℕ) → looping ≡ On start end → sound_loop length looping ≡ true → (start < end) × (end ≤ length)
+pub on_sound : (length : ℕ) (looping : Option LoopRange) (start end : ℕ) → looping ≡ Some (record { start = start; end = end }) → sound_loop length looping ≡ true → (start < end) × (end ≤ length)
 on_sound length looping start end on is = let good : good_loop length start end ≡ true = rw on at is in (loop_starts length start end good, loop_ends length start end good)
 
 -- ---- folding

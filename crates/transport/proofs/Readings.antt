@@ -1,50 +1,34 @@
--- No two cases of an answer read alike, since each can be told from its reading. So a contract through a reading has one answer (`one_reading` of numbers).
-use mathlib.Core.Path.{◌≡◌, refl, ap}
-use mathlib.Core.Bool.{cond}
-use lib.Dec.{eqb}
-use Rattle.numbers.proofs.Laws.{Apart, apart_cases, case_of}
-use Rattle.transport.specs.declared.MadeAnswer.TheVariants as M
-use Rattle.transport.specs.declared.Report.TheVariants as R
-use Rattle.transport.specs.declared.Advance.TheVariants as A
+-- No two answers that a call hands back read alike, since each can be told from its reading. So a contract through a reading has one answer (`one_reading` of numbers).
+use Rattle.std.proofs.Common.{◌≡◌, Result, Ok, Err, refl, sym, ap, ◌∙◌}
+use Rattle.numbers.specs.declared.refusal.Refusal.{Refusal}
+use Rattle.numbers.specs.Answers.{Answer, accepted, refused}
+use Rattle.numbers.specs.Refusals.{read}
+use Rattle.numbers.proofs.Laws.{Apart, results_apart}
+use Rattle.transport.specs.declared.Moves as M
 use Rattle.transport.specs.Changes.{Handed}
 use Rattle.transport.specs.Advances.{Moves}
-use Rattle.transport.specs.Readings.{read_made, read_change, read_changed, read_report, read_advanced}
+use Rattle.transport.specs.Readings.{read_handed, read_moves, read_advanced}
 
-made_apart_same : (r : M.the_data) → case_of M.Made (λ n. M.NotBeat) (read_made r) ≡ r
-made_apart_same (M.Made t) = refl
-made_apart_same M.NotBeat = refl
-
-pub made_apart : Apart read_made
-made_apart = apart_cases read_made M.Made (λ n. M.NotBeat) made_apart_same
-
--- ---- changes
-
-reports_apart_same : (r : R.the_data) → case_of (λ u. R.Done) (λ n. cond (eqb n 12) R.Unsound (cond (eqb n 3) R.Uneven (cond (eqb n 4) R.TooLong (cond (eqb n 1) R.NotBeat R.BadLoop)))) (read_change r) ≡ r
-reports_apart_same R.Done = refl
-reports_apart_same R.Unsound = refl
-reports_apart_same R.Uneven = refl
-reports_apart_same R.TooLong = refl
-reports_apart_same R.NotBeat = refl
-reports_apart_same R.BadLoop = refl
-
-pub reports_apart : Apart read_change
-reports_apart = apart_cases read_change (λ u. R.Done) (λ n. cond (eqb n 12) R.Unsound (cond (eqb n 3) R.Uneven (cond (eqb n 4) R.TooLong (cond (eqb n 1) R.NotBeat R.BadLoop)))) reports_apart_same
-
-pub changed_apart : Apart read_changed
-changed_apart r s e =
-    let p = reports_apart r.report s.report (ap (λ (h : Handed Unit). h.answer) e) in
-    λ i. record { transport = (e i).transport; report = p i }
+pub handed_apart : {A : Type 0} → Apart (read_handed {A = A})
+handed_apart {A} r s e =
+    let p = results_apart r.answer s.answer (ap (λ (h : Handed A). h.answer) e) in
+    λ i. record { transport = (e i).transport; answer = p i }
 
 -- ---- advances
 
-advances_apart_same : (r : A.the_data) → case_of (λ (moves : Moves). A.Moved moves.0 moves.1) (λ n. A.Unsound) (read_report r) ≡ r
-advances_apart_same (A.Moved wrapped finished) = refl
-advances_apart_same A.Unsound = refl
+-- the answer that an advance's is, with the moves as a struct
+abbrev told : Answer Moves → Answer M.Moves
+told (accepted moves) = accepted (record { wrapped = moves.0; finished = moves.1 })
+told (refused n facts) = refused n facts
 
-pub advances_apart : Apart read_report
-advances_apart = apart_cases read_report (λ (moves : Moves). A.Moved moves.0 moves.1) (λ n. A.Unsound) advances_apart_same
+told_same : (r : Result M.Moves Refusal) → told (read_moves r) ≡ read r
+told_same (Ok moves) = refl
+told_same (Err why) = refl
+
+pub moves_apart : Apart read_moves
+moves_apart r s e = results_apart r s (sym (told_same r) ∙ ap told e ∙ told_same s)
 
 pub advanced_apart : Apart read_advanced
 advanced_apart r s e =
-    let p = advances_apart r.report s.report (ap (λ (h : Handed Moves). h.answer) e) in
-    λ i. record { transport = (e i).transport; report = p i }
+    let p = moves_apart r.answer s.answer (ap (λ (h : Handed Moves). h.answer) e) in
+    λ i. record { transport = (e i).transport; answer = p i }

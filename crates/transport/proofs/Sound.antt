@@ -7,13 +7,12 @@ use native.Mathlib.Omega.{arith}
 use lib.Ieee.{Float}
 use borrow.Author.Tests.{le-leb}
 use Rattle.numbers.specs.Answers.{Answer, accepted, refused}
-use Rattle.meter.specs.declared.Pickup.{Pickup}
-use Rattle.meter.specs.declared.Pickup.TheVariants.{Absent}
+use Rattle.std.specs.Prelude.{Option, Some, None}
+use Rattle.beats.specs.declared.Beat.{Beat}
 use Rattle.meter.specs.Meters.{sound_pickup}
 use Rattle.transport.specs.declared.PlayState.{PlayState}
 use Rattle.transport.specs.declared.PlayState.TheVariants.{Stopped, Playing, Paused}
 use Rattle.transport.specs.declared.LoopRange.{LoopRange}
-use Rattle.transport.specs.declared.LoopRange.TheVariants.{Off, On}
 use Rattle.transport.specs.declared.playhead.Stands.{Stands}
 use Rattle.transport.specs.declared.playhead.Stands.TheVariants.{At, Wrapped, Ended}
 use Rattle.transport.specs.declared.playhead.Run.{Run}
@@ -34,16 +33,16 @@ unfolding sound
 sound_by t position loop pickup = simp (le-leb t.position t.length position, loop, pickup)
 
 module _ (rate : ℕ) (bpm : Float) (beats : ℕ) where
-  made_sound : (length : ℕ) (pickup : Pickup) → sound_pickup pickup ≡ true → sound (made rate bpm beats length pickup) ≡ true
+  made_sound : (length : ℕ) (pickup : Option Beat) → sound_pickup pickup ≡ true → sound (made rate bpm beats length pickup) ≡ true
   made_sound length pickup is = sound_by (made rate bpm beats length pickup) (omega arith) refl is
 
-  accepted_sound : (length : ℕ) (pickup : Pickup) (t : Transport) (q : Bool) → sound_pickup pickup ≡ q
+  accepted_sound : (length : ℕ) (pickup : Option Beat) (t : Transport) (q : Bool) → sound_pickup pickup ≡ q
       → cond q (accepted (made rate bpm beats length pickup)) (refused 1 []) ≡ accepted t → sound t ≡ true
   accepted_sound length pickup t true is e = let same : made rate bpm beats length pickup ≡ t = cc in ap sound (sym same) ∙ made_sound length pickup is
   accepted_sound length pickup t false is e = absurd (let z : ◌≡◌ {A = ℕ} 0 1 = cc in omega arith)
 
   pub sound_made : MadeSound rate bpm beats
-  sound_made = record { constant = made_sound (2 ^ 64 - 1) Absent refl; with_length = λ length pickup t e. accepted_sound length pickup t (sound_pickup pickup) refl e }
+  sound_made = record { constant = made_sound (2 ^ 64 - 1) None refl; with_length = λ length pickup t e. accepted_sound length pickup t (sound_pickup pickup) refl e }
 
 -- ---- a sound transport changed
 
@@ -54,7 +53,7 @@ module _ (t : Transport) (is : sound t ≡ true) where
   sought_sound : (frame : ℕ) → sound (seek_to t frame) ≡ true
   sought_sound frame = moved_sound (min frame t.length) t.state (omega arith)
 
-  looping_sound : (looping : LoopRange) → sound_loop t.length looping ≡ true → sound (looping_by t looping) ≡ true
+  looping_sound : (looping : Option LoopRange) → sound_loop t.length looping ≡ true → sound (looping_by t looping) ≡ true
   looping_sound looping good = sound_by (looping_by t looping) (sound_position t is) good (sound_pickup_lem t is)
 
 -- ---- a run
@@ -77,8 +76,8 @@ module _ (t : Transport) (is : sound t ≡ true) where
   looped_sound : (start end : ℕ) → sound (handed t (loop_change t start end)).transport ≡ true
   looped_sound start end = go (good_loop t.length start end) refl
     where
-      go : (q : Bool) → good_loop t.length start end ≡ q → sound (handed t (cond q (accepted (looping_by t (On start end))) (refused 9 []))).transport ≡ true
-      go true good = looping_sound t is (On start end) good
+      go : (q : Bool) → good_loop t.length start end ≡ q → sound (handed t (cond q (accepted (looping_by t (Some (record { start = start; end = end })))) (refused 9 []))).transport ≡ true
+      go true good = looping_sound t is (Some (record { start = start; end = end })) good
       go false bad = is
 
   pub stays_sound : StaysSound t
@@ -88,6 +87,6 @@ module _ (t : Transport) (is : sound t ≡ true) where
     stopped = kept (accepted (moved_to t 0 Stopped)) (moved_sound t is 0 Stopped (omega arith));
     sought = λ frame. kept (accepted (seek_to t frame)) (sought_sound t is frame);
     looped = λ start end. kept (loop_change t start end) (looped_sound start end);
-    unlooped = kept (accepted (looping_by t Off)) (looping_sound t is Off refl);
+    unlooped = kept (accepted (looping_by t None)) (looping_sound t is None refl);
     advances = λ frames. ap (λ (d : Handed Moves). sound d.transport) (sym (advance_fit t frames is)) ∙ advanced_sound frames;
   }

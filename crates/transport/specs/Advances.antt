@@ -1,9 +1,8 @@
 -- `advance`: where the playhead stands after a run of frames.
-use Rattle.std.specs.Prelude.{Bool, true, false, cond, [], ℕ, min, ◌+◌, ◌-◌, ◌%◌, ◌^◌, leb}
+use Rattle.std.specs.Prelude.{Bool, true, false, cond, [], ℕ, min, ◌+◌, ◌-◌, ◌%◌, ◌^◌, leb, Option, Some, None}
 use Rattle.numbers.specs.Answers.{accepted, refused}
 use Rattle.transport.specs.declared.PlayState.TheVariants.{Stopped, Playing}
 use Rattle.transport.specs.declared.LoopRange.{LoopRange}
-use Rattle.transport.specs.declared.LoopRange.TheVariants.{Off, On}
 use Rattle.transport.specs.declared.playhead.Stands.{Stands}
 use Rattle.transport.specs.declared.playhead.Stands.TheVariants.{At, Wrapped, Ended}
 use Rattle.transport.specs.declared.playhead.Run.{Run}
@@ -24,22 +23,22 @@ abbrev pub fold : ℕ → ℕ → ℕ → ℕ
 fold start end frame = start + (frame - start) % (end - start)
 
 -- with a loop, at its end or past it, the playhead wraps; the length is looked at only otherwise
-abbrev pub standing : ℕ → LoopRange → ℕ → Stands
-standing length Off frame = unlooped length frame
-standing length (On start end) frame = cond (leb end frame) (Wrapped (fold start end frame)) (unlooped length frame)
+abbrev pub standing : ℕ → Option LoopRange → ℕ → Stands
+standing length None frame = unlooped length frame
+standing length (Some range) frame = cond (leb range.end frame) (Wrapped (fold range.start range.end frame)) (unlooped length frame)
 
 -- a playhead that ends stops at the length
 abbrev pub came : Transport → Stands → Run
-came t (At frame) = record { transport = moved_to t frame Playing; wrapped = false; finished = false }
-came t (Wrapped frame) = record { transport = moved_to t frame Playing; wrapped = true; finished = false }
-came t Ended = record { transport = moved_to t t.length Stopped; wrapped = false; finished = true }
+came t (At frame) = record { transport = moved_to t frame Playing; moves = record { wrapped = false; finished = false } }
+came t (Wrapped frame) = record { transport = moved_to t frame Playing; moves = record { wrapped = true; finished = false } }
+came t Ended = record { transport = moved_to t t.length Stopped; moves = record { wrapped = false; finished = true } }
 
 abbrev pub ran : Transport → ℕ → Run
 ran t frames = came t (standing t.length t.looping (reached t.position frames))
 
 -- a transport that does not play stays where it is
 abbrev pub stayed : Transport → Run
-stayed t = record { transport = t; wrapped = false; finished = false }
+stayed t = record { transport = t; moves = record { wrapped = false; finished = false } }
 
 unfoldable pub advanced : Transport → ℕ → Run
 advanced t frames = cond (playing t.state) (ran t frames) (stayed t)
@@ -51,7 +50,7 @@ abbrev pub Moves : Type 0
 Moves = Bool × Bool
 
 abbrev pub moves_of : Run → Handed Moves
-moves_of run = record { transport = run.transport; answer = accepted (run.wrapped, run.finished) }
+moves_of run = record { transport = run.transport; answer = accepted (run.moves.wrapped, run.moves.finished) }
 
 abbrev pub advance_answer : Transport → ℕ → Handed Moves
 advance_answer t frames = cond (sound t) (moves_of (advanced t frames)) (record { transport = t; answer = refused 12 [] })

@@ -1,8 +1,7 @@
 -- The calls that change a transport. Each refuses an unsound one by 12, and a refusal hands back the old transport.
-use Rattle.std.specs.Prelude.{cond, [], ℕ}
+use Rattle.std.specs.Prelude.{cond, [], ℕ, Some, None}
 use Rattle.numbers.specs.Answers.{Answer, accepted, refused}
 use Rattle.transport.specs.declared.PlayState.TheVariants.{Stopped, Playing, Paused}
-use Rattle.transport.specs.declared.LoopRange.TheVariants.{Off, On}
 use Rattle.transport.specs.declared.Transport.{Transport}
 use Rattle.transport.specs.Transports.{sound, good_loop, moved_to, looping_by, seek_to}
 
@@ -39,10 +38,10 @@ seek_answer t frame = if_sound t (accepted (seek_to t frame))
 
 -- 9 where the loop is bad
 abbrev pub loop_change : Transport → ℕ → ℕ → Answer Transport
-loop_change t start end = cond (good_loop t.length start end) (accepted (looping_by t (On start end))) (refused 9 [])
+loop_change t start end = cond (good_loop t.length start end) (accepted (looping_by t (Some (record { start = start; end = end })))) (refused 9 [])
 
 abbrev pub loop_answer : Transport → ℕ → ℕ → Handed Unit
 loop_answer t start end = if_sound t (loop_change t start end)
 
 abbrev pub unloop_answer : Transport → Handed Unit
-unloop_answer t = if_sound t (accepted (looping_by t Off))
+unloop_answer t = if_sound t (accepted (looping_by t None))

@@ -1,7 +1,7 @@
 -- What is promised of the transport beyond each call's own answer; proofs/Sound.antt and proofs/Composes.antt prove it.
-use Rattle.std.specs.Prelude.{◌≡◌, true, ◌||◌, ℕ, ◌+◌, ◌-◌, ◌≤◌, ◌^◌, Float}
+use Rattle.std.specs.Prelude.{◌≡◌, true, ◌||◌, ℕ, ◌+◌, ◌-◌, ◌≤◌, ◌^◌, Float, Option}
 use Rattle.numbers.specs.Answers.{accepted}
-use Rattle.meter.specs.declared.Pickup.{Pickup}
+use Rattle.beats.specs.declared.Beat.{Beat}
 use Rattle.transport.specs.declared.Transport.{Transport}
 use Rattle.transport.specs.Transports.{sound, playing, constant_at, made_answer}
 use Rattle.transport.specs.Changes.{Handed, play_answer, pause_answer, stop_answer, seek_answer, loop_answer, unloop_answer}
@@ -12,7 +12,7 @@ use Rattle.transport.specs.Advances.{Moves, advanced, advance_answer}
 -- what is made is sound
 pub record MadeSound (rate : ℕ) (bpm : Float) (beats : ℕ) : Type 0 where
   pub constant : sound (constant_at rate bpm beats) ≡ true
-  pub with_length : (length : ℕ) (pickup : Pickup) (t : Transport) → made_answer rate bpm beats length pickup ≡ accepted t → sound t ≡ true
+  pub with_length : (length : ℕ) (pickup : Option Beat) (t : Transport) → made_answer rate bpm beats length pickup ≡ accepted t → sound t ≡ true
 
 -- and a sound transport stays sound
 pub record StaysSound (t : Transport) : Type 0 where
@@ -33,8 +33,8 @@ Reaches t frames = playing t.state ≡ true → t.position + frames ≤ 2 ^ 64 -
 -- a frames and then b frames are a + b frames: the same transport at the end, and the whole wraps, or finishes, just when one of the two does
 pub record Composes (t : Transport) (a b : ℕ) : Type 0 where
   pub ends : (advanced t (a + b)).transport ≡ (advanced (advanced t a).transport b).transport
-  pub wraps : (advanced t (a + b)).wrapped ≡ ((advanced t a).wrapped || (advanced (advanced t a).transport b).wrapped)
-  pub finishes : (advanced t (a + b)).finished ≡ ((advanced t a).finished || (advanced (advanced t a).transport b).finished)
+  pub wraps : (advanced t (a + b)).moves.wrapped ≡ ((advanced t a).moves.wrapped || (advanced (advanced t a).transport b).moves.wrapped)
+  pub finishes : (advanced t (a + b)).moves.finished ≡ ((advanced t a).moves.finished || (advanced (advanced t a).transport b).moves.finished)
 
 -- the call's answer, where it is accepted with these moves
 abbrev pub moving : Transport → Moves → Handed Moves

@@ -1,44 +1,28 @@
--- Each case of the answers, in the numbers of document 01: 12 unsound, 3 uneven, 4 too long, 1 not a beat, 9 bad loop.
-use Rattle.std.specs.Prelude.{[]}
+-- What a call hands back, read: the transport as it is, and the answer in the numbers of document 01 (`read` of numbers).
+use Rattle.std.specs.Prelude.{Result, Ok, Err}
 use Rattle.numbers.specs.Answers.{Answer, accepted, refused}
+use Rattle.numbers.specs.declared.refusal.Refusal.{Refusal}
+use Rattle.numbers.specs.Refusals.{number_of, facts_of, read}
 use Rattle.transport.specs.declared.Transport.{Transport}
-use Rattle.transport.specs.declared.MadeAnswer.{MadeAnswer}
-use Rattle.transport.specs.declared.MadeAnswer.TheVariants.{Made, NotBeat as NoBeat}
-use Rattle.transport.specs.declared.Report.{Report}
-use Rattle.transport.specs.declared.Report.TheVariants.{Done, Unsound, Uneven, TooLong, NotBeat, BadLoop}
-use Rattle.transport.specs.declared.Changed.{Changed}
-use Rattle.transport.specs.declared.Advance.{Advance}
-use Rattle.transport.specs.declared.Advance.TheVariants.{Moved, Unsound as Unfit}
-use Rattle.transport.specs.declared.Advanced.{Advanced}
+use Rattle.transport.specs.declared.Moves as M
+use Rattle.transport.specs.declared.Handed as H
 use Rattle.transport.specs.Changes.{Handed}
 use Rattle.transport.specs.Advances.{Moves}
 
-abbrev pub read_made : MadeAnswer → Answer Transport
-read_made (Made t) = accepted t
-read_made NoBeat = refused 1 []
+abbrev pub read_handed : {A : Type 0} → H.Handed A → Handed A
+read_handed r = record { transport = r.transport; answer = read r.answer }
 
-abbrev pub read_change : Report → Answer Unit
-read_change Done = accepted tt
-read_change Unsound = refused 12 []
-read_change Uneven = refused 3 []
-read_change TooLong = refused 4 []
-read_change NotBeat = refused 1 []
-read_change BadLoop = refused 9 []
+abbrev pub read_moves : Result M.Moves Refusal → Answer Moves
+read_moves (Ok moves) = accepted (moves.wrapped, moves.finished)
+read_moves (Err why) = refused (number_of why) (facts_of why)
 
-abbrev pub read_changed : Changed → Handed Unit
-read_changed r = record { transport = r.transport; answer = read_change r.report }
-
-abbrev pub read_report : Advance → Answer Moves
-read_report (Moved wrapped finished) = accepted (wrapped, finished)
-read_report Unfit = refused 12 []
-
-abbrev pub read_advanced : Advanced → Handed Moves
-read_advanced r = record { transport = r.transport; answer = read_report r.report }
+abbrev pub read_advanced : H.Handed M.Moves → Handed Moves
+read_advanced r = record { transport = r.transport; answer = read_moves r.answer }
 
 -- ---- two answers as values
 
-abbrev pub changed_to : Transport → Changed
-changed_to t = record { transport = t; report = Done }
+abbrev pub changed_to : Transport → H.Handed Unit
+changed_to t = record { transport = t; answer = Ok tt }
 
-abbrev pub refused_by : Transport → Report → Changed
-refused_by t report = record { transport = t; report = report }
+abbrev pub refused_by : {A : Type 0} → Transport → Refusal → H.Handed A
+refused_by t why = record { transport = t; answer = Err why }

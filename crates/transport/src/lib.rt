@@ -4,31 +4,64 @@
 #![tactic(auto)]
 
 ghost use Rattle.std.specs.Prelude.{◌≡◌};
+ghost use Rattle.numbers.specs.Refusals.{read};
 ghost use Rattle.transport.specs.Transports.{sound, constant_at, made_answer, playing};
 ghost use Rattle.transport.specs.Changes.{play_answer, pause_answer, stop_answer, seek_answer, loop_answer, unloop_answer};
 ghost use Rattle.transport.specs.Advances.{advance_answer};
-ghost use Rattle.transport.specs.Readings.{read_made, read_changed, read_report, read_advanced};
+ghost use Rattle.transport.specs.Readings.{read_handed, read_moves, read_advanced};
 
-use meter::Pickup;
+use beats::Beat;
+use numbers::Refusal;
 
 pub mod change;
 pub mod playhead;
 
-#[derive(Clone, Copy)]
+#[derive(Clone, Copy, Debug, PartialEq, Eq)]
 pub enum PlayState {
     Stopped,
     Playing,
     Paused,
 }
 
-#[derive(Clone, Copy)]
-pub enum LoopRange {
-    Off,
-    // from its first frame up to its end, which is not in it
-    On(u64, u64),
+impl PlayState {
+    ghost use Rattle.std.specs.Prelude.{◌≡◌};
+    ghost use Rattle.transport.specs.Words.{state_of};
+
+    // A word above 2 is no state, and is read as 2.
+    pub fn of_word(word: u64) -> PlayState
+        ensures { result ≡ state_of word }
+    {
+        match word {
+            0 => PlayState::Stopped,
+            1 => PlayState::Playing,
+            _ => PlayState::Paused,
+        }
+    }
 }
 
-#[derive(Clone, Copy)]
+impl From<PlayState> for u64 {
+    ghost use Rattle.std.specs.Prelude.{◌≡◌};
+    ghost use Rattle.transport.specs.Words.{state_word};
+
+    ghost from_gives = { λ state word. word ≡ state_word state };
+
+    fn from(state: PlayState) -> u64 {
+        match state {
+            PlayState::Stopped => 0,
+            PlayState::Playing => 1,
+            PlayState::Paused => 2,
+        }
+    }
+}
+
+// From its first frame up to its end, which is not in it.
+#[derive(Clone, Copy, Debug, PartialEq, Eq)]
+pub struct LoopRange {
+    pub start: u64,
+    pub end: u64,
+}
+
+#[derive(Clone, Copy, Debug, PartialEq)]
 pub struct Transport {
     pub sample_rate: u32,
     // the tempo where no tempo map is lent
@@ -38,79 +71,57 @@ pub struct Transport {
     pub length: u64,
     pub position: u64,
     pub state: PlayState,
-    pub looping: LoopRange,
-    pub pickup: Pickup,
+    pub looping: Option<LoopRange>,
+    pub pickup: Option<Beat>,
 }
 
-#[derive(Clone, Copy)]
-pub enum MadeAnswer {
-    Made(Transport),
-    NotBeat,
-}
-
-// What a call that changes a transport says.
-#[derive(Clone, Copy)]
-pub enum Report {
-    Done,
-    Unsound,
-    Uneven,
-    TooLong,
-    NotBeat,
-    BadLoop,
-}
-
-// The transport after the call; where it refuses, as it was.
-#[derive(Clone, Copy)]
-pub struct Changed {
+// The transport after a call, and what the call answers; where it refuses, the transport as it was.
+#[derive(Clone, Copy, Debug, PartialEq)]
+pub struct Handed<A> {
     pub transport: Transport,
-    pub report: Report,
+    pub answer: Result<A, Refusal>,
 }
 
-// Whether the advance wrapped, and whether it finished.
-#[derive(Clone, Copy)]
-pub enum Advance {
-    Moved(bool, bool),
-    Unsound,
-}
-
-// The transport after the advance; where it refuses, as it was.
-#[derive(Clone, Copy)]
-pub struct Advanced {
-    pub transport: Transport,
-    pub report: Advance,
+// What an advance did.
+#[derive(Clone, Copy, Debug, PartialEq, Eq)]
+pub struct Moves {
+    pub wrapped: bool,
+    pub finished: bool,
 }
 
 // A clock of one tempo and one meter, as long as frames can be counted, stopped at frame 0.
 pub fn constant(rate: u32, bpm: f32, beats: u32) -> Transport
     ensures { result ≡ constant_at rate bpm beats }
 {
-    change::fresh(rate, bpm, beats, 0xffff_ffff_ffff_ffff, Pickup::Absent)
+    change::fresh(rate, bpm, beats, u64::MAX, None)
 }
 
 // The same with a length and a pickup.
-pub fn with_length(rate: u32, bpm: f32, beats: u32, length: u64, pickup: Pickup) -> MadeAnswer
-    ensures { read_made result ≡ made_answer rate bpm beats length pickup }
+pub fn with_length(
+    rate: u32,
+    bpm: f32,
+    beats: u32,
+    length: u64,
+    pickup: Option<Beat>,
+) -> Result<Transport, Refusal>
+    ensures { read result ≡ made_answer rate bpm beats length pickup }
 {
-    if !pickup.is_sound() {
-        return MadeAnswer::NotBeat;
+    if !meter::is_sound_pickup(pickup) {
+        return Err(Refusal::NotBeat);
     }
-    MadeAnswer::Made(change::fresh(rate, bpm, beats, length, pickup))
+    Ok(change::fresh(rate, bpm, beats, length, pickup))
 }
 
 impl Transport {
     // Whether no call refuses it by 12.
+    #[tactic(auto, unfolding(crate::specs::Transports::sound))]
     pub fn is_sound(self) -> bool
         ensures { result ≡ sound self }
     {
-        let looping = self.looping;
-        let pickup = self.pickup;
-        if self.position > self.length {
-            return false;
-        }
-        if !playhead::sound_loop(self.length, looping) {
-            return false;
-        }
-        pickup.is_sound()
+        let within = self.position <= self.length;
+        within
+            && playhead::sound_loop(self.length, self.looping)
+            && meter::is_sound_pickup(self.pickup)
     }
 
     // What the fields hold, of an unsound transport too.
@@ -130,12 +141,7 @@ impl Transport {
     pub fn is_playing(self) -> bool
         ensures { result ≡ playing self.state }
     {
-        let state = self.state;
-        match state {
-            PlayState::Playing => true,
-            PlayState::Stopped => false,
-            PlayState::Paused => false,
-        }
+        matches!(self.state, PlayState::Playing)
     }
 
     pub fn position_frames(self) -> u64
@@ -150,43 +156,43 @@ impl Transport {
         self.length
     }
 
-    pub fn loop_range(self) -> LoopRange
+    pub fn loop_range(self) -> Option<LoopRange>
         ensures { result ≡ self.looping }
     {
         self.looping
     }
 
     // Start or go on.
-    pub fn play(self) -> Changed
-        ensures { read_changed result ≡ play_answer self }
+    pub fn play(self) -> Handed<()>
+        ensures { read_handed result ≡ play_answer self }
     {
         change::if_sound(self, change::moved(self, self.position, PlayState::Playing))
     }
 
     // Hold the position.
-    pub fn pause(self) -> Changed
-        ensures { read_changed result ≡ pause_answer self }
+    pub fn pause(self) -> Handed<()>
+        ensures { read_handed result ≡ pause_answer self }
     {
         change::if_sound(self, change::moved(self, self.position, PlayState::Paused))
     }
 
     // Stop, at frame 0.
-    pub fn stop(self) -> Changed
-        ensures { read_changed result ≡ stop_answer self }
+    pub fn stop(self) -> Handed<()>
+        ensures { read_handed result ≡ stop_answer self }
     {
         change::if_sound(self, change::moved(self, 0, PlayState::Stopped))
     }
 
     // Go to a frame, or to the end where that is nearer.
-    pub fn seek_frame(self, frame: u64) -> Changed
-        ensures { read_changed result ≡ seek_answer self frame }
+    pub fn seek_frame(self, frame: u64) -> Handed<()>
+        ensures { read_handed result ≡ seek_answer self frame }
     {
         change::if_sound(self, change::sought(self, frame))
     }
 
     // Loop from a frame up to another.
-    pub fn set_loop_frames(self, start: u64, end: u64) -> Changed
-        ensures { read_changed result ≡ loop_answer self start end }
+    pub fn set_loop_frames(self, start: u64, end: u64) -> Handed<()>
+        ensures { read_handed result ≡ loop_answer self start end }
     {
         if !self.is_sound() {
             return change::unsound(self);
@@ -194,36 +200,36 @@ impl Transport {
         change::looped(self, start, end)
     }
 
-    pub fn clear_loop(self) -> Changed
-        ensures { read_changed result ≡ unloop_answer self }
+    pub fn clear_loop(self) -> Handed<()>
+        ensures { read_handed result ≡ unloop_answer self }
     {
-        change::if_sound(self, change::with_loop(self, LoopRange::Off))
+        change::if_sound(self, change::with_loop(self, None))
     }
 
     // Let so many frames go by.
-    pub fn advance(self, frames: u64) -> Advanced
+    pub fn advance(self, frames: u64) -> Handed<Moves>
         ensures { read_advanced result ≡ advance_answer self frames }
     {
         if !self.is_sound() {
-            return Advanced {
+            return Handed {
                 transport: self,
-                report: Advance::Unsound,
+                answer: Err(Refusal::Unsound),
             };
         }
         let run = playhead::advanced(self, frames);
         let transport = run.transport;
-        Advanced {
+        Handed {
             transport,
-            report: Advance::Moved(run.wrapped, run.finished),
+            answer: Ok(run.moves),
         }
     }
 }
 
 // The same, of the owner's transport where it stands.
-pub fn advance_in_place(t: &mut Transport, frames: u64) -> Advance
-    ensures { (read_report result ≡ (advance_answer t.old frames).answer) × (t.new ≡ (advance_answer t.old frames).transport) }
+pub fn advance_in_place(t: &mut Transport, frames: u64) -> Result<Moves, Refusal>
+    ensures { (read_moves result ≡ (advance_answer t.old frames).answer) × (t.new ≡ (advance_answer t.old frames).transport) }
 {
-    let a = (*t).advance(frames);
-    *t = a.transport;
-    a.report
+    let handed = (*t).advance(frames);
+    *t = handed.transport;
+    handed.answer
 }

@@ -5,4 +5,4 @@ use Rattle.benching.proofs.mixed.Goals as goal
 
 pub returns : goal.returns
 returns c =
-    c.wrapping_add_u64.ensures.value ∙ ap (λ (x : ℕ). (x + c.args.answer) % 2 ^ 64) (turned c.args.sum c.ranges.sum.fits)
+    ap (λ (x : ℕ). (x + c.args.answer) % 2 ^ 64) (c.rotate_left.ensures ∙ turned c.args.sum c.ranges.sum.fits)

@@ -1,19 +1,30 @@
 -- The test's refusals change nothing; else the lists are such that the lines can be filled.
-use mathlib.Core.Path.{sym, ◌∙◌}
-use Rattle.filler.proofs.Testing.{passed, answered, after}
+use Rattle.std.proofs.Common.{rules, length, ◌∙◌}
+use Rattle.meter.specs.Meters.{points_of}
+use Rattle.tempo.specs.Tempos.{tempo_points}
+use Rattle.filler.specs.Fills.{bar_lines}
+use Rattle.filler.proofs.Testing.{known, answered, after}
 use Rattle.filler.proofs.fill_lines.Goals as goal
 
 pub fill-requires : goal.fill-requires
-fill-requires c =
-    let p = passed _ _ _ _ _ c.args.out.now c.test.ensures c.in-Sound.is in
-    record { parallel = p.0; out_len_bound = p.1 }
+fill-requires c = (known _ _ _ _ _ _ c.in_ok-map.ensures.test).1
 
-pub returns-in-Refused : goal.returns-in-Refused
-returns-in-Refused c =
-    let e = sym c.in-Refused.is ∙ c.test.ensures in
-    record { result_value = answered _ _ _ _ _ c.args.out.now e; out_after = after _ _ _ _ _ c.args.out.now e }
+pub returns-in_err-map-clause-result_value : goal.returns-in_err-map-clause-result_value
+returns-in_err-map-clause-result_value c =
+    let e = answered _ _ _ _ _ c.args.out.now c.in_err-map.ensures.test in search (rules, e)
 
-pub returns-in-Sound : goal.returns-in-Sound
-returns-in-Sound c =
-    let e = sym c.in-Sound.is ∙ c.test.ensures in
-    record { result_value = answered _ _ _ _ _ c.args.out.now e; out_after = c.fill.ensures ∙ after _ _ _ _ _ c.args.out.now e }
+pub returns-in_err-map-clause-out_after : goal.returns-in_err-map-clause-out_after
+returns-in_err-map-clause-out_after c =
+    after _ _ _ _ _ c.args.out.now c.in_err-map.ensures.test
+
+pub returns : goal.returns
+returns c =
+    let e = c.in_ok-map.ensures.test in
+    let lists = c.in_ok-map.ensures.lists in
+    record {
+      result_value = answered _ _ _ _ _ c.args.out.now e;
+      out_after =
+          c.fill.ensures
+          ∙ (λ i. bar_lines c.args.t (points_of c.args.words.now) (tempo_points (lists.0 i) (lists.1 i) (lists.2 i)) (length c.args.out.now))
+          ∙ after _ _ _ _ _ c.args.out.now e;
+    }

@@ -1,24 +1,31 @@
--- A turn takes one point to the stage behind it; what is left to show of states and words is in `Walking`.
-use Rattle.std.proofs.Common.{◌∙◌}
-use Rattle.problems.proofs.Walking.{begins, may_walk, steps, nearer, ends}
+-- The first pass tells the count, and the second leaves the words.
+use Rattle.std.proofs.Common.{false, arith}
+use Rattle.numbers.proofs.Laws.{never}
+use Rattle.problems.specs.Problems.{meter_problems}
+use Rattle.problems.proofs.Calls.{ready, none_fit, none_written, all_written, meter_too_long, meter_told}
+use Rattle.problems.proofs.Wholes.{meter_few}
 use Rattle.problems.proofs.meter_map_problems.Goals as goal
 
-pub loop-s-init : goal.loop-s-init
-loop-s-init c = rw c.begin-s.ensures (begins c.args.points.now c.args.out.now)
+pub pass-count-requires-clause-ready : goal.pass-count-requires-clause-ready
+pass-count-requires-clause-ready c =
+    ready false c.args.out.now (meter_problems c.args.points.now) (omega (arith, meter_few c.args.points.now)) never
 
-pub step-s-requires : goal.step-s-requires
-step-s-requires c =
-    may_walk c.args.points.now c.args.out.now c.loop-s.s c.loop-s.out c.loop-s.invariant c.loop-s-test.true
+pub returns-then-points-gt-MOST_POINTS : goal.returns-then-points-gt-MOST_POINTS
+returns-then-points-gt-MOST_POINTS c =
+    let told = meter_too_long c.args.points.now c.args.out.now c.if-points-gt-MOST_POINTS.true in
+    record { answer = told.0; words = told.1 }
 
-pub loop-s-preserved : goal.loop-s-preserved
-loop-s-preserved c =
-    steps c.args.points.now c.args.out.now c.loop-s.s c.loop-s.out c.loop-s.invariant c.loop-s-test.true c.step-s.new.out c.step-s.ensures.1 c.step-s.result c.step-s.ensures.0
+pub returns-then-count-out : goal.returns-then-count-out
+returns-then-count-out c =
+    let told = meter_told c.args.points.now c.args.out.now c.if-points-gt-MOST_POINTS.false (none_fit c.pass-count.ensures c.if-count-out.true) in
+    record { answer = told.0; words = told.1 }
 
-pub loop-s-smaller : goal.loop-s-smaller
-loop-s-smaller c =
-    nearer c.args.points.now c.args.out.now c.loop-s.s c.loop-s.out c.loop-s.invariant c.loop-s-test.true c.step-s.new.out c.step-s.ensures.1 c.step-s.result c.step-s.ensures.0
+pub returns-then-count-eq0 : goal.returns-then-count-eq0
+returns-then-count-eq0 c =
+    let told = meter_told c.args.points.now c.args.out.now c.if-points-gt-MOST_POINTS.false (none_written c.pass-count.ensures c.if-count-eq0.true) in
+    record { answer = told.0; words = told.1 }
 
 pub returns : goal.returns
 returns c =
-    let e = ends c.args.points.now c.args.out.now c.loop-s.s c.loop-s.out c.loop-s.invariant c.loop-s-test.false in
-    (c.finish.ensures ∙ e.0, e.1)
+    let told = meter_told c.args.points.now c.args.out.now c.if-points-gt-MOST_POINTS.false (all_written c.pass-count.ensures c.if-count-out.false c.pass.ensures) in
+    record { answer = told.0; words = told.1 }

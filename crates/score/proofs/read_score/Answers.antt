@@ -1,7 +1,6 @@
 -- Nothing is written before the test has passed; behind it the counts are those of the header, and each copy fills its list.
-use Rattle.std.proofs.Common.{◌≡◌, refl, sym, ◌∙◌, true, Bool, ℕ, List, arith}
-use Rattle.score.specs.Format.{is_score}
-use Rattle.score.proofs.Whole.{Known, score_laid, known, refused_is, kept, accepted_is, meter_filled, nums_filled, dens_filled, bits_filled}
+use Rattle.std.proofs.Common.{refl, sym, ◌∙◌, arith}
+use Rattle.score.proofs.Whole.{score_laid, known, refused_is, kept, accepted_is, meter_filled, nums_filled, dens_filled, bits_filled}
 use Rattle.score.proofs.read_score.Goals as goal
 
 pub returns-then-not-is_score : goal.returns-then-not-is_score

@@ -1,17 +1,15 @@
--- The test's refusals, each by its number; else the answer is that of the walk, whose lists the test found parallel.
-use Rattle.timeline.proofs.Testing.{passed_change, refused_change, maps_parallel}
+-- The test's refusals; else the answer is that of the loop between the two frames.
+use Rattle.std.proofs.Common.{ap, ◌∙◌}
+use Rattle.transport.specs.Changes.{handed}
+use Rattle.transport.specs.Readings.{read_handed}
+use Rattle.timeline.proofs.Testing.{refuses, accepts}
 use Rattle.timeline.proofs.set_loop_bars.Goals as goal
 
-pub frame_at_bar-from-requires : goal.frame_at_bar-from-requires
-frame_at_bar-from-requires c = maps_parallel _ _ _ _ _ c.maps_test.ensures c.in-Sound.is
+pub returns-in-Err : goal.returns-in-Err
+returns-in-Err c = ap read_handed c.refused.ensures ∙ ap (handed c.args.t) (refuses _ _ _ c.in-Err.ensures.test)
 
-pub frame_at_bar-to-requires : goal.frame_at_bar-to-requires
-frame_at_bar-to-requires c = maps_parallel _ _ _ _ _ c.maps_test.ensures c.in-Sound.is
-
-pub returns-in-Refused : goal.returns-in-Refused
-returns-in-Refused c = rw c.handed_back.ensures (refused_change _ _ _ c.maps_test.ensures c.in-Refused.is)
-
-pub returns-in-Sound : goal.returns-in-Sound
-returns-in-Sound c =
-    rw (c.looped.ensures, c.frame_at_bar-from.ensures, c.frame_at_bar-to.ensures)
-    (passed_change _ _ _ c.maps_test.ensures c.in-Sound.is)
+pub returns-in-Ok : goal.returns-in-Ok
+returns-in-Ok c =
+    let l = c.in-Ok.ensures.lists in
+    let t = c.in-Ok.ensures.test in
+    rw (c.looped.ensures, c.frame_at_bar-from.ensures, c.frame_at_bar-to.ensures, l.0, l.1, l.2) (ap (handed c.args.t) (accepts _ _ _ t))

@@ -1,18 +1,9 @@
--- Below k every element is the signed number of its two words.
-use Rattle.std.proofs.Common.{pos, refl, ◌∙◌, w64}
-use mir.ValLaws.{to_z-of_z}
-use Rattle.asking.proofs.Filling.{none, one_more, all}
+-- Each element is what the closure gives for its index.
+use Rattle.std.proofs.Common.{rules, pos}
+use Rattle.asking.specs.Lists.{i64_in}
+use Rattle.asking.proofs.Filling.{filled}
 use Rattle.asking.proofs.lists.i64s.Goals as goal
 
-pub loop-k-init : goal.loop-k-init
-loop-k-init c = none (pos 0) _ _ _ refl
-
-pub loop-k-preserved : goal.loop-k-preserved
-loop-k-preserved c =
-    one_more (pos 0) _ _ c.loop-k.space c.loop-k.k _ c.loop-k.invariant c.loop-k-test.true (to_z-of_z w64 c.i64_at.result (record { sfits = c.i64_at.type_inv }) ∙ c.i64_at.ensures)
-
-pub shape_of-space : goal.shape_of-space
-shape_of-space c = c.loop-k.invariant.long
-
 pub returns : goal.returns
-returns c = all (pos 0) _ _ c.loop-k.space c.loop-k.k c.loop-k.invariant c.loop-k-test.false
+returns c =
+    filled (pos 0) (i64_in c.args.list.now) c.fill.new.space _ c.fill.ensures.len (λ j l. let p = c.fill.ensures.each j l (pos 0) in search rules)

@@ -1,5 +1,5 @@
 -- The divisor is not 0 and at most the denominator, so both quotients fit, and they are the definition's.
-use Rattle.std.proofs.Common.{◌≡◌, ℕ, ◌/◌, ◌^◌, ◌<◌, ◌≤◌, max, ℤ, pos, nat_abs, sym, ap, ◌∙◌, div-le_self, arith, w64, SFits, to_z, of_z, rules}
+use Rattle.std.proofs.Common.{◌≡◌, ℕ, ◌/◌, ◌^◌, ◌<◌, ◌≤◌, max, ℤ, pos, nat_abs, sym, ap, ◌∙◌, div-le_self, arith, w64, SFits, to_z, of_z}
 use lib.Signed.{quot_z}
 use mir.ValLaws.{to_z-of_z, sfits_le}
 use Rattle.numbers.specs.Divisor.{gcd_of}

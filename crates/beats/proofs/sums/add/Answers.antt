@@ -1,5 +1,5 @@
 -- The numerator of the sum is known exactly, and the denominators' product too.
-use Rattle.std.proofs.Common.{◌+ℤ◌, ◌∙◌, w64}
+use Rattle.std.proofs.Common.{◌+ℤ◌, ◌∙◌, w64, SFits, rules}
 use mir.ValLaws.{to_z-of_z}
 use Rattle.beats.specs.Sums.{fitted}
 use Rattle.beats.proofs.Fitted.{crossed}
@@ -7,7 +7,9 @@ use Rattle.beats.proofs.sums.add.Goals as goal
 
 pub returns : goal.returns
 returns c =
-    let x = to_z-of_z w64 c.args.a.num (record { sfits = c.struct_told-1.given.0.1 }) in
-    let y = to_z-of_z w64 c.args.b.num (record { sfits = c.struct_told-2-1.given.0.1 }) in
+    let fits : SFits w64 c.args.a.num = search rules in
+    let x = to_z-of_z w64 c.args.a.num fits in
+    let fits : SFits w64 c.args.b.num = search rules in
+    let y = to_z-of_z w64 c.args.b.num fits in
     let z = crossed ◌+ℤ◌ c.sum_of_products.result _ _ c.args.a.num c.args.b.num c.args.b.den c.args.a.den x y c.sum_of_products.ensures in
     c.checked.ensures ∙ (λ i. fitted (z i) (c.common.ensures i))

@@ -1,7 +1,6 @@
 -- The two tests are those of the definition; past them the number is an i64, so stopping it changes nothing.
 use Rattle.std.proofs.Common.{ℤ, sym, ap, ◌∙◌, w64, rules}
 use mir.ValLaws.{to_z-of_z}
-use borrow.Author.Tests.{not-true, not-false}
 use Rattle.numbers.specs.Exacts.{value_of}
 use Rattle.beats.specs.Beats.{new_beat}
 use Rattle.beats.proofs.Fitted.{too_large, too_fine, done}

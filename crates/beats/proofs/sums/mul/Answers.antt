@@ -1,5 +1,5 @@
 -- The numerators' product is known exactly, and the denominators' too.
-use Rattle.std.proofs.Common.{◌≡◌, ◌*ℤ◌, ◌∙◌, w64}
+use Rattle.std.proofs.Common.{◌≡◌, ◌*ℤ◌, ◌∙◌, w64, SFits, rules}
 use mir.ValLaws.{to_z-of_z}
 use Rattle.numbers.specs.Exacts.{value_of}
 use Rattle.numbers.proofs.Laws.{valued}
@@ -8,7 +8,8 @@ use Rattle.beats.proofs.sums.mul.Goals as goal
 
 pub returns : goal.returns
 returns c =
-    let x = to_z-of_z w64 c.args.a.num (record { sfits = c.struct_told-1.given.0.1 }) in
+    let fits : SFits w64 c.args.a.num = search rules in
+    let x = to_z-of_z w64 c.args.a.num fits in
     let y = to_z-of_z w64 c.args.num c.ranges.num in
     let z : value_of c.product.result ≡ c.args.a.num *ℤ c.args.num = valued _ _ c.product.ensures ∙ (λ i. x i *ℤ y i) in
     c.checked.ensures ∙ (λ i. fitted (z i) (c.common.ensures i))

@@ -7,14 +7,14 @@ use Rattle.benching.proofs.Words.{begins, two_on}
 use Rattle.benching.proofs.Filling.{none, one_word, whole}
 use Rattle.benching.proofs.maps.tempo_bits.Goals as goal
 
-pub loop-k-init : goal.loop-k-init
-loop-k-init c = (none tempo_bits _, omega arith, begins)
+pub loop-tempo-init : goal.loop-tempo-init
+loop-tempo-init c = (none tempo_bits _, omega arith, begins)
 
-pub loop-k-preserved : goal.loop-k-preserved
-loop-k-preserved c =
-    let word = ap (λ (x : ℕ). (0x42800000 + x % 2 ^ 24) ∷ []) c.loop-k.invariant.2 in
-    let after = c.next-r.ensures ∙ ap next_of c.next.ensures ∙ two_on c.loop-k.k c.loop-k.r c.loop-k.invariant.2 in
-    (one_word tempo_bits _ c.loop-k.tempos c.loop-k.k _ word c.loop-k.invariant.0, omega (arith, c.loop-k-test.true), after)
+pub loop-tempo-preserved : goal.loop-tempo-preserved
+loop-tempo-preserved c =
+    let word = ap (λ (x : ℕ). (0x42800000 + x % 2 ^ 24) ∷ []) c.loop-tempo.invariant.2 in
+    let after = c.next-r.ensures ∙ ap next_of c.next.ensures ∙ two_on c.loop-tempo.tempo-index c.loop-tempo.r c.loop-tempo.invariant.2 in
+    (one_word tempo_bits _ c.loop-tempo.tempo-items c.loop-tempo.tempo-index _ word c.loop-tempo.invariant.0, omega (arith, c.loop-tempo-test.true), after)
 
 pub returns : goal.returns
-returns c = whole tempo_bits _ c.loop-k.tempos c.loop-k.k c.loop-k.k 1024 (omega (arith, length-replicate {A = ℕ} 1024 0)) (omega arith) c.loop-k.invariant.0
+returns c = whole tempo_bits _ c.loop-tempo.tempo-items c.loop-tempo.tempo-index c.loop-tempo.tempo-index 1024 (omega (arith, length-replicate {A = ℕ} 1024 0)) (omega arith) c.loop-tempo.invariant.0

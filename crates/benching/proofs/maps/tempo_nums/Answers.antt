@@ -11,7 +11,7 @@ loop-k-init c = (none tempo_num _, omega arith)
 
 pub loop-k-preserved : goal.loop-k-preserved
 loop-k-preserved c =
-    (one_word tempo_num _ c.loop-k.nums c.loop-k.k _ (ap (λ (z : ℤ). z ∷ []) (read_pos (4 * c.loop-k.k) (omega arith))) c.loop-k.invariant.0, omega arith)
+    (one_word tempo_num _ c.loop-k.num-items c.loop-k.k _ (ap (λ (z : ℤ). z ∷ []) (read_pos (4 * c.loop-k.k) (omega arith))) c.loop-k.invariant.0, omega arith)
 
 pub returns : goal.returns
-returns c = whole tempo_num _ c.loop-k.nums c.loop-k.k c.loop-k.k 1024 (omega (arith, length-replicate 1024 (pos 0))) (omega arith) c.loop-k.invariant.0
+returns c = whole tempo_num _ c.loop-k.num-items c.loop-k.k c.loop-k.k 1024 (omega (arith, length-replicate 1024 (pos 0))) (omega arith) c.loop-k.invariant.0

@@ -1,27 +1,17 @@
--- After i turns i squares are put.
-use mathlib.Core.Path.{◌≡◌, refl}
-use native.Mathlib.Omega.{arith}
+-- After k turns k squares are put.
+use Rattle.std.proofs.Common.{◌≡◌, ap, arith}
+use Rattle.text.proofs.Laws.{append_as}
+use Rattle.count_text.specs.Answers.{repeated}
 use Rattle.count_text.proofs.Parts.{no_squares, one_square}
 use Rattle.count_text.proofs.lines.squares.Goals as goal
 
-pub loop-i-init : goal.loop-i-init
-loop-i-init c = (omega arith, refl, omega arith, no_squares _ _ _)
+pub loop-init : goal.loop-init
+loop-init c = (omega arith, no_squares _ _)
 
-pub loop-i-preserved : goal.loop-i-preserved
-loop-i-preserved c =
-    let next = one_square c.args.square c.loop-i.i (omega arith) c.loop-i.invariant.3 c.byte-p.ensures in
-    (omega arith, omega arith, omega (arith, c.byte-p.ensures.next_is), next)
+pub loop-preserved : goal.loop-preserved
+loop-preserved c = (omega arith, one_square c.args.square c.loop.counter (omega arith) c.loop.invariant.1 c.byte.ensures)
 
 pub returns : goal.returns
 returns c =
-    let e : c.loop-i.i ≡ c.args.count = omega arith in
-    record { puts = rw e at c.loop-i.invariant.3; value = omega arith }
-
-pub byte-p-requires : goal.byte-p-requires
-byte-p-requires c = omega arith
-
-pub overflow_add-i : goal.overflow_add-i
-overflow_add-i c = omega arith
-
-pub loop-i-smaller : goal.loop-i-smaller
-loop-i-smaller c = omega arith
+    let e : c.loop.counter ≡ c.args.count = omega arith in
+    record { puts = append_as (ap (repeated c.args.square) e) c.loop.invariant.1; place = omega arith }

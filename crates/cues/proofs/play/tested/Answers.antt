@@ -1,11 +1,12 @@
 -- By whether the transport plays.
-use mathlib.Core.Path.{sym, ◌∙◌}
-use Rattle.cues.proofs.Answering.{idle}
+use Rattle.std.proofs.Common.{sym, ◌∙◌}
+use Rattle.cues.proofs.Answering.{fine, idle}
 use Rattle.cues.proofs.play.tested.Goals as goal
-
-pub returns-then-is_playing : goal.returns-then-is_playing
-returns-then-is_playing c = c.played.ensures
 
 pub returns : goal.returns
 returns c =
-    idle c.args.t c.args.lines.now c.args.frames c.args.out.now c.requires.0 c.requires.1 (sym c.is_playing.ensures ∙ c.if-is_playing.false)
+    let a =
+    idle c.args.t c.args.lines.frames.now c.args.frames c.args.out.now c.requires.fit (fine _ c.requires.few c.args.lines.in_order)
+    (sym c.is_playing.ensures ∙ c.if-is_playing.false)
+    in
+    record { answer = a.0; words = a.1 }

@@ -1,24 +1,16 @@
 -- The length is scaled, and then added.
-use mathlib.Core.Path.{sym, ap, ◌∙◌}
-use native.Mathlib.Omega.{arith}
-use lib.IntN.{ℤ}
+use Rattle.std.proofs.Common.{sym, ap, ◌∙◌, arith, ℤ}
+use Rattle.std.proofs.lemmas.Result.{err_from_is_err_and}
 use Rattle.numbers.proofs.Laws.{read_pos}
 use Rattle.beats.specs.Sums.{mul_beat}
-use Rattle.beats.specs.Readings.{read_beat}
 use Rattle.fits.proofs.Walking.{bars_done, bars_refused}
 use Rattle.fits.proofs.walk.bars_on.Goals as goal
 
-pub returns-in-Done : goal.returns-in-Done
-returns-in-Done c =
-    bars_done c.args.at c.args.len c.args.n _ _
-    (sym (c.mul.ensures ∙ ap (λ (z : ℤ). mul_beat c.args.len z 1) (read_pos c.args.n (omega arith))) ∙ ap read_beat c.in-Done.is) c.add.ensures
+pub returns-in_err-mul : goal.returns-in_err-mul
+returns-in_err-mul c =
+    let p = err_from_is_err_and c.from_residual.result c.from_residual.ensures.1 in
+    rw (p.1, p.2) (bars_refused c.args.at c.args.len c.args.n _ _ (sym (c.in_err-mul.ensures ∙ ap (λ (z : ℤ). mul_beat c.args.len z 1) (read_pos c.args.n (omega arith)))))
 
-pub returns-in-NotBeat : goal.returns-in-NotBeat
-returns-in-NotBeat c =
-    bars_refused c.args.at c.args.len c.args.n _ _
-    (sym (c.mul.ensures ∙ ap (λ (z : ℤ). mul_beat c.args.len z 1) (read_pos c.args.n (omega arith))) ∙ ap read_beat c.in-NotBeat.is)
-
-pub returns-in-Overflow : goal.returns-in-Overflow
-returns-in-Overflow c =
-    bars_refused c.args.at c.args.len c.args.n _ _
-    (sym (c.mul.ensures ∙ ap (λ (z : ℤ). mul_beat c.args.len z 1) (read_pos c.args.n (omega arith))) ∙ ap read_beat c.in-Overflow.is)
+pub returns : goal.returns
+returns c =
+    bars_done c.args.at c.args.len c.args.n _ _ (sym (c.in_ok-mul.ensures ∙ ap (λ (z : ℤ). mul_beat c.args.len z 1) (read_pos c.args.n (omega arith)))) c.add.ensures

@@ -1,5 +1,5 @@
 -- As defined.
-use mathlib.Core.Path.{refl}
+use Rattle.std.proofs.Common.{refl}
 use Rattle.form.specs.Drafts.{empty}
 use Rattle.form.proofs.draft.empty.Goals as goal
 

@@ -1,5 +1,5 @@
 -- As defined.
-use mathlib.Core.Path.{refl}
+use Rattle.std.proofs.Common.{refl}
 use Rattle.form.specs.Drafts.{more_tempos}
 use Rattle.form.proofs.draft.more_tempos.Goals as goal
 

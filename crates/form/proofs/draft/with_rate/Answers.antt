@@ -1,12 +1,13 @@
--- Refused where the number was said, and else written down.
+-- Refused where it was said, and else written down.
+use Rattle.std.proofs.Common.{sym, ◌∙◌}
 use Rattle.form.specs.Drafts.{with_rate}
 use Rattle.form.proofs.Saids.{said_twice, said_first}
 use Rattle.form.proofs.draft.with_rate.Goals as goal
 
-pub returns-in-Number : goal.returns-in-Number
+pub returns-then-is_some : goal.returns-then-is_some
 unfolding with_rate
-returns-in-Number c = said_twice _ _ c.in-Number.is
+returns-then-is_some c = said_twice c.args.draft.rate _ (sym c.is_some.ensures ∙ c.if-is_some.true)
 
-pub returns-in-Not : goal.returns-in-Not
+pub returns : goal.returns
 unfolding with_rate
-returns-in-Not c = said_first _ c.in-Not.is
+returns c = said_first c.args.draft.rate _ (sym c.is_some.ensures ∙ c.if-is_some.false)

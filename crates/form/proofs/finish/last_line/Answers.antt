@@ -1,9 +1,7 @@
--- By whether there are lines.
-use Rattle.form.proofs.Ends.{last_none, last_some}
+-- The larger of the number and 1.
+use Rattle.std.proofs.Common.{◌∙◌}
+use Rattle.form.proofs.Ends.{last_is}
 use Rattle.form.proofs.finish.last_line.Goals as goal
 
-pub returns-then-lines-eq0 : goal.returns-then-lines-eq0
-returns-then-lines-eq0 c = last_none _ c.if-lines-eq0.true
-
-pub returns-else-lines-eq0 : goal.returns-else-lines-eq0
-returns-else-lines-eq0 c = last_some _ c.if-lines-eq0.false
+pub returns : goal.returns
+returns c = c.max.ensures ∙ last_is _

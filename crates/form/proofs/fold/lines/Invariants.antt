@@ -8,7 +8,7 @@ use Rattle.form.proofs.fold.lines.Given as goal
 
 abbrev pub invariant-loop-place : goal.invariant-loop-place
 invariant-loop-place l =
-    (l.line ≤ l.place) × (walk (lines (drop l.place l.text)) l.line (front l.draft l.meter l.nums l.dens l.bpms) ≡ outcome l.text)
+    (l.line ≤ l.place) × (walk (lines (drop l.place l.text)) l.line (front l.draft l.points) ≡ outcome l.text)
 
 abbrev pub decreases-loop-place : goal.decreases-loop-place
 decreases-loop-place l = length l.text - l.place

@@ -1,17 +1,15 @@
--- Three parts one behind another, within their bounds.
-use native.Mathlib.Omega.{arith}
-use Rattle.form_text.proofs.Rows.{form_put}
+-- Three parts one behind another.
+use Rattle.std.proofs.Common.{◌≡◌, ap, ◌∙◌, arith, ◌/◌, length}
+use Rattle.text.proofs.Laws.{append_as}
+use Rattle.form_text.specs.Forms.{meter_lines}
+use Rattle.form_text.proofs.Rows.{form_put, same_lines}
 use Rattle.form_text.proofs.lines.form.Goals as goal
 
-pub meter_lines-b-requires : goal.meter_lines-b-requires
-meter_lines-b-requires c = (omega arith, c.requires.3)
-
-pub tempo_lines-requires : goal.tempo_lines-requires
-tempo_lines-requires c = (omega arith, c.requires.4, c.requires.5, c.requires.6)
-
-pub returns : goal.returns
-returns c =
-    record { puts = form_put c.args.score c.args.meter.now c.args.nums.now c.args.dens.now c.args.bpms.now c.head-a.ensures.puts c.meter_lines-b.ensures.puts c.tempo_lines.ensures.puts; upper_bound = omega arith }
-
-pub head-a-requires : goal.head-a-requires
-head-a-requires c = omega arith
+pub returns-clause-puts : goal.returns-clause-puts
+returns-clause-puts c =
+    let m = c.meter.ensures in
+    let t = c.tempo_map.ensures in
+    let third : length c.meter.result.now / 3 ≡ c.args.music.score.meters = omega (arith, m.count) in
+    form_put (omega arith) c.args.music.score _ _ _ _ c.head.ensures.puts
+    (append_as (ap (meter_lines c.meter.result.now) third ∙ ap (λ l. meter_lines l c.args.music.score.meters) m.words) c.meter_lines.ensures.puts)
+    (append_as (same_lines t.nums t.dens t.tempos t.count) c.tempo_lines.ensures.puts)

@@ -1,12 +1,8 @@
--- Three lines, and the pickup's.
-use native.Mathlib.Omega.{arith}
+-- Six texts one behind another.
+use Rattle.std.proofs.Common.{arith}
 use Rattle.form_text.proofs.Rows.{head_put}
 use Rattle.form_text.proofs.lines.head.Goals as goal
 
-pub returns : goal.returns
-returns c =
-    record {
-      puts = head_put c.args.score c.number_line-a.ensures.puts c.number_line-b.ensures.puts c.bytes-c.ensures
-          c.tempo-d.ensures.puts c.byte-e.ensures c.pickup_line.ensures.puts;
-      upper_bound = omega arith;
-    }
+pub returns-clause-puts : goal.returns-clause-puts
+returns-clause-puts c =
+    head_put (omega arith) c.args.score c.number_line.ensures.puts c.number_line-2.ensures.puts c.bytes.ensures c.tempo.ensures.puts c.byte.ensures c.pickup_line.ensures.puts

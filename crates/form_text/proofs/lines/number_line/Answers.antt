@@ -1,19 +1,18 @@
 -- Three texts one behind another.
-use native.Mathlib.Omega.{arith}
+use Rattle.std.proofs.Common.{arith}
 use Rattle.text.proofs.Laws.{digits32}
 use Rattle.form_text.proofs.Rows.{number_put}
 use Rattle.form_text.proofs.lines.number_line.Goals as goal
 
-pub decimal-b-requires : goal.decimal-b-requires
-decimal-b-requires c = omega (arith, digits32 c.args.number (omega arith), c.bytes-a.ensures.next_is)
+pub decimal-requires : goal.decimal-requires
+decimal-requires c = omega (arith, digits32 c.args.number (omega arith))
 
 pub byte-requires : goal.byte-requires
-byte-requires c =
-    omega (arith, digits32 c.args.number (omega arith), c.bytes-a.ensures.next_is, c.decimal-b.ensures.next_is)
+byte-requires c = omega (arith, digits32 c.args.number (omega arith))
 
 pub returns : goal.returns
 returns c =
-    record { puts = number_put c.args.word.now c.args.number (omega arith) c.bytes-a.ensures c.decimal-b.ensures c.byte.ensures; upper_bound = omega (arith, digits32 c.args.number (omega arith), c.bytes-a.ensures.next_is, c.decimal-b.ensures.next_is, c.byte.ensures.next_is) }
-
-pub bytes-a-requires : goal.bytes-a-requires
-bytes-a-requires c = omega arith
+    record {
+      puts = number_put (omega arith) c.args.word.now c.args.number c.bytes.ensures c.decimal.ensures c.byte.ensures;
+      upper_bound = omega (arith, digits32 c.args.number (omega arith));
+    }

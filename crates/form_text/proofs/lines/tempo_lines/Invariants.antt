@@ -1,13 +1,8 @@
--- After k turns the lines of the first k points are put.
-use mathlib.Core.Path.{◌≡◌}
-use Prim.Native.Nat.{◌+◌, ◌-◌, ◌*◌, ◌≤◌}
-use lib.ListN.{length}
-use Rattle.text.specs.Texts.{Puts}
+-- The lines of the points so far are put.
+use Rattle.std.proofs.Common.{◌≤◌, ◌+◌, ◌*◌}
+use Rattle.text.specs.Pages.{Appends}
 use Rattle.form_text.specs.Forms.{tempo_lines}
 use Rattle.form_text.proofs.lines.tempo_lines.Given as goal
 
 abbrev pub invariant-loop-k : goal.invariant-loop-k
-invariant-loop-k l = (l.k ≤ l.count) × (length l.out ≡ length l.initial.out) × (l.p ≤ l.place + 54 * l.k) × Puts l.place (tempo_lines l.nums l.dens l.bpms l.k) l.initial.out l.p l.out
-
-abbrev pub decreases-loop-k : goal.decreases-loop-k
-decreases-loop-k l = l.count - l.k
+invariant-loop-k l = (l.page.place ≤ l.initial.page.place + 54 * l.k) × Appends (tempo_lines l.map.nums.now l.map.dens.now l.map.tempos.now l.k) l.initial.page l.page

@@ -1,47 +1,26 @@
 -- By the first slash, and by the numbers before and behind it.
-use mathlib.Core.Path.{refl, sym, ◌∙◌}
-use native.Mathlib.Omega.{arith}
+use Rattle.std.proofs.Common.{refl, sym, ◌∙◌}
+use Rattle.std.proofs.lemmas.Result.{err_from_is_err_and}
 use Rattle.items.proofs.Tests.{no_slash, over_is}
 use Rattle.items.specs.Items.{meter_by}
 use Rattle.items.proofs.keys.meter_over.Goals as goal
 
-pub returns-then-slash-end : goal.returns-then-slash-end
-returns-then-slash-end c = no_slash _ _ _ c.until-slash.ensures.0 c.if-slash-end.true
+pub returns-then-slash-word : goal.returns-then-slash-word
+returns-then-slash-word c = no_slash _ _ _ c.until-slash.ensures.0 c.if-slash-word.true
 
-pub returns-in-Wrong : goal.returns-in-Wrong
+pub returns-in_err-num : goal.returns-in_err-num
 unfolding meter_by
-returns-in-Wrong c =
-    over_is _ _ _ c.until-slash.ensures.0 c.if-slash-end.false (sym c.in-Wrong.is ∙ c.number.ensures) refl
+returns-in_err-num c =
+    let p = err_from_is_err_and c.from_residual.result c.from_residual.ensures.1 in
+    rw (p.1, p.2) (over_is _ _ _ c.until-slash.ensures.0 c.if-slash-word.false (sym c.in_err-num.was ∙ c.number.ensures) refl)
 
-pub returns-in-Wrong-number : goal.returns-in-Wrong-number
+pub returns-in_err-den : goal.returns-in_err-den
 unfolding meter_by
-returns-in-Wrong-number c =
-    over_is _ _ _ c.until-slash.ensures.0 c.if-slash-end.false (sym c.in-Number.is ∙ c.number.ensures)
-    (sym c.in-Wrong-number.is ∙ c.number-in-Number.ensures)
+returns-in_err-den c =
+    let p = err_from_is_err_and c.from_residual-in_err-den.result c.from_residual-in_err-den.ensures.1 in
+    rw (p.1, p.2) (over_is _ _ _ c.until-slash.ensures.0 c.if-slash-word.false (sym c.in_ok-num.was ∙ c.number.ensures) (sym c.in_err-den.was ∙ c.number-2.ensures))
 
-pub returns-in-Number-number : goal.returns-in-Number-number
+pub returns : goal.returns
 unfolding meter_by
-returns-in-Number-number c =
-    over_is _ _ _ c.until-slash.ensures.0 c.if-slash-end.false (sym c.in-Number.is ∙ c.number.ensures)
-    (sym c.in-Number-number.is ∙ c.number-in-Number.ensures)
-
-pub overflow_add-behind : goal.overflow_add-behind
-overflow_add-behind c = omega arith
-
-pub slice_bounds-number-count : goal.slice_bounds-number-count
-slice_bounds-number-count c = omega arith
-
-pub slice_bounds-number-start : goal.slice_bounds-number-start
-slice_bounds-number-start c = omega arith
-
-pub slice_bounds-number-end : goal.slice_bounds-number-end
-slice_bounds-number-end c = omega arith
-
-pub slice_bounds-number-count-in-Number : goal.slice_bounds-number-count-in-Number
-slice_bounds-number-count-in-Number c = omega arith
-
-pub slice_bounds-number-start-in-Number : goal.slice_bounds-number-start-in-Number
-slice_bounds-number-start-in-Number c = omega arith
-
-pub slice_bounds-number-end-in-Number : goal.slice_bounds-number-end-in-Number
-slice_bounds-number-end-in-Number c = omega arith
+returns c =
+    over_is _ _ _ c.until-slash.ensures.0 c.if-slash-word.false (sym c.in_ok-num.was ∙ c.number.ensures) (sym c.in_ok-den.was ∙ c.number-2.ensures)

@@ -1,44 +1,19 @@
 -- By how many words stand behind the key, and by what they say.
-use mathlib.Core.Path.{sym, ap, ◌∙◌}
-use native.Mathlib.Omega.{arith}
-use Rattle.items.specs.Items.{tempo_item, tempo_by}
+use Rattle.std.proofs.Common.{sym, ap, ◌∙◌}
+use Rattle.std.proofs.lemmas.Result.{err_from_is_err_and}
 use Rattle.splits.specs.Readings.{read_found}
+use Rattle.items.specs.Items.{tempo_item, tempo_by}
 use Rattle.items.proofs.keys.tempo.Goals as goal
 
-pub slice_bounds-tempo-count : goal.slice_bounds-tempo-count
-slice_bounds-tempo-count c = omega (arith, rw c.in-One.is at c.requires)
-
-pub slice_bounds-tempo-start : goal.slice_bounds-tempo-start
-slice_bounds-tempo-start c = omega (arith, rw c.in-One.is at c.requires)
-
-pub slice_bounds-tempo-end : goal.slice_bounds-tempo-end
-slice_bounds-tempo-end c = omega (arith, rw c.in-One.is at c.requires)
-
-pub slice_bounds-point-count : goal.slice_bounds-point-count
-slice_bounds-point-count c = omega (arith, rw c.in-Two.is at c.requires)
-
-pub slice_bounds-point-start : goal.slice_bounds-point-start
-slice_bounds-point-start c = omega (arith, rw c.in-Two.is at c.requires)
-
-pub slice_bounds-point-end : goal.slice_bounds-point-end
-slice_bounds-point-end c = omega (arith, rw c.in-Two.is at c.requires)
-
-pub slice_bounds-point-count-in-Two : goal.slice_bounds-point-count-in-Two
-slice_bounds-point-count-in-Two c = omega (arith, rw c.in-Two.is at c.requires)
-
-pub slice_bounds-point-start-in-Two : goal.slice_bounds-point-start-in-Two
-slice_bounds-point-start-in-Two c = omega (arith, rw c.in-Two.is at c.requires)
-
-pub slice_bounds-point-end-in-Two : goal.slice_bounds-point-end-in-Two
-slice_bounds-point-end-in-Two c = omega (arith, rw c.in-Two.is at c.requires)
-
-pub returns-in-Wrong : goal.returns-in-Wrong
+pub returns-in_err-bits-in-One : goal.returns-in_err-bits-in-One
 unfolding tempo_item tempo_by read_found
-returns-in-Wrong c = rw c.in-One.is (ap tempo_by (sym c.in-Wrong.is ∙ c.tempo.ensures))
+returns-in_err-bits-in-One c =
+    let p = err_from_is_err_and c.from_residual.result c.from_residual.ensures.1 in
+    rw (p.1, p.2, c.in-One.is) (ap tempo_by (sym c.in_err-bits-in-One.was ∙ c.tempo.ensures))
 
-pub returns-in-Number : goal.returns-in-Number
+pub returns-in_ok-bits-in-One : goal.returns-in_ok-bits-in-One
 unfolding tempo_item tempo_by read_found
-returns-in-Number c = rw c.in-One.is (ap tempo_by (sym c.in-Number.is ∙ c.tempo.ensures))
+returns-in_ok-bits-in-One c = rw c.in-One.is (ap tempo_by (sym c.in_ok-bits-in-One.was ∙ c.tempo.ensures))
 
 pub returns-in-Two : goal.returns-in-Two
 unfolding tempo_item read_found

@@ -1,16 +1,15 @@
 -- By what the word says.
-use mathlib.Core.Path.{sym, ap, ◌∙◌}
+use Rattle.std.proofs.Common.{sym, ap, ◌∙◌}
+use Rattle.std.proofs.lemmas.Result.{err_from_is_err_and}
 use Rattle.items.specs.Items.{beat_value}
 use Rattle.items.proofs.values.beat.Goals as goal
 
-pub returns-in-Read : goal.returns-in-Read
+pub returns-in_err-beat : goal.returns-in_err-beat
 unfolding beat_value
-returns-in-Read c = ap beat_value (sym c.in-Read.is ∙ c.beat.ensures)
+returns-in_err-beat c =
+    let p = err_from_is_err_and c.from_residual.result c.from_residual.ensures.1 in
+    rw (p.1, p.2) (ap beat_value (sym c.in_err-beat.was ∙ c.beat.ensures))
 
-pub returns-in-NotNumber : goal.returns-in-NotNumber
+pub returns : goal.returns
 unfolding beat_value
-returns-in-NotNumber c = ap beat_value (sym c.in-NotNumber.is ∙ c.beat.ensures)
-
-pub returns-in-NotBeat : goal.returns-in-NotBeat
-unfolding beat_value
-returns-in-NotBeat c = ap beat_value (sym c.in-NotBeat.is ∙ c.beat.ensures)
+returns c = ap beat_value (sym c.in_ok-beat.was ∙ c.beat.ensures)

@@ -1,6 +1,5 @@
 -- Four stores in a row.
-use native.Mathlib.Omega.{arith}
-use lib.ListN.{length-set}
+use Rattle.std.proofs.Common.{arith, length-set}
 use Rattle.notes.proofs.FourWords.{put_four}
 use Rattle.notes.proofs.words.put_note.Goals as goal
 

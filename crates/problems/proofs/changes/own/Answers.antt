@@ -4,8 +4,8 @@ use Rattle.problems.proofs.changes.own.Goals as goal
 
 pub note-requires : goal.note-requires
 unfolding tempo_bits
-note-requires c = rw c.sound_tempo-bad.ensures c.requires
+note-requires c = rw c.sound_tempo.ensures c.requires
 
 pub returns : goal.returns
 unfolding tempo_bits
-returns c = rw c.sound_tempo-bad.ensures at c.note.ensures
+returns c = rw c.sound_tempo.ensures at c.note.ensures

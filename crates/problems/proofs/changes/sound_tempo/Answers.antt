@@ -1,5 +1,5 @@
 -- The code's zero and infinity are the definition's (`Tempos`).
-use mathlib.Core.Path.{ap, ◌∙◌}
+use Rattle.std.proofs.Common.{ap, ◌∙◌}
 use Rattle.problems.specs.Problems.{sound_tempo}
 use Rattle.problems.proofs.Tempos.{above_zero, not_above_lem}
 use Rattle.problems.proofs.changes.sound_tempo.Goals as goal

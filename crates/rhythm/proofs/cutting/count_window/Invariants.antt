@@ -1,11 +1,9 @@
--- The count so far and that of the words that are left make the whole count.
-use Rattle.std.proofs.Common.{◌≡◌, ◌+◌, ◌-◌, ◌*◌, ◌%◌, ◌≤◌, length, drop}
-use Rattle.rhythm.proofs.Windows.{win}
+-- The count so far and that of the notes that are left make the whole count.
+use Rattle.std.proofs.Common.{◌≡◌, ◌≤◌, ◌+◌, map, length, drop}
+use Rattle.notes.specs.Notes.{notes_of, note_of}
+use Rattle.rhythm.specs.Cuts.{window}
 use Rattle.rhythm.proofs.cutting.count_window.Given as goal
 
-abbrev pub invariant-loop-i : goal.invariant-loop-i
-invariant-loop-i l =
-    (l.i % 4 ≡ 0) × (l.i ≤ length l.words) × (4 * l.count ≤ l.i) × (l.count + length (win l.start l.len (drop l.i l.words)) ≡ length (win l.start l.len l.words))
-
-abbrev pub decreases-loop-i : goal.decreases-loop-i
-decreases-loop-i l = length l.words - l.i
+abbrev pub invariant-loop-note : goal.invariant-loop-note
+invariant-loop-note l =
+    (l.count ≤ l.note-index) × (l.count + length (window l.start l.len (map note_of (drop l.note-index l.note-items))) ≡ length (window l.start l.len (notes_of l.words)))

@@ -1,31 +1,33 @@
 -- What the walk finds from here on is what it finds in all.
-use Rattle.std.proofs.Common.{drop, sym, refl, ◌∙◌, arith, drop_of_length-le, rules}
-use Rattle.numbers.proofs.Laws.{product_fits}
+use Rattle.std.proofs.Common.{sym, ap, ◌∙◌}
+use Rattle.notes.proofs.Laws.{next_note, no_note}
+use Rattle.rhythm.specs.Cuts.{note_grid, grid_answer}
 use Rattle.rhythm.proofs.Gridding.{step_off, len_off, on, all_on}
 use Rattle.rhythm.proofs.cutting.note_off_grid.Goals as goal
 
-pub loop-i-init : goal.loop-i-init
-loop-i-init c = (refl, omega arith, omega arith, refl)
+pub loop-place-init : goal.loop-place-init
+loop-place-init c = ap (note_grid c.args.num c.args.den 0) c.each-note-items.ensures.notes
 
-pub overflow_mul-step : goal.overflow_mul-step
-overflow_mul-step c = record { fits = product_fits _ _ (search rules) (search rules) }
+pub returns-then-n-m-ne0 : goal.returns-then-n-m-ne0
+returns-then-n-m-ne0 c =
+    let place = c.loop-place.place in
+    let next = ap (note_grid c.args.num c.args.den place) (next_note c.each-note-items.result.now place c.from-n.result _ c.loop-place-test.true c.from-n.ensures) in
+    sym (ap grid_answer (sym c.loop-place.invariant ∙ next ∙ step_off c.args.num c.args.den place c.from-n.result _ c.if-n-m-ne0.true))
 
-pub returns-then-step-ne0 : goal.returns-then-step-ne0
-returns-then-step-ne0 c =
-    sym (step_off c.args.num c.args.den c.loop-i.place c.note_at-n.result _ _ c.note_at-n.ensures c.if-step-ne0.true) ∙ c.loop-i.invariant.3
+pub returns-then-n-m-ne0-2 : goal.returns-then-n-m-ne0-2
+returns-then-n-m-ne0-2 c =
+    let place = c.loop-place.place in
+    let next = ap (note_grid c.args.num c.args.den place) (next_note c.each-note-items.result.now place c.from-n.result _ c.loop-place-test.true c.from-n.ensures) in
+    sym (ap grid_answer (sym c.loop-place.invariant ∙ next ∙ len_off c.args.num c.args.den place c.from-n.result _ c.if-n-m-ne0.false c.if-n-m-ne0-2.true))
 
-pub overflow_mul-len : goal.overflow_mul-len
-overflow_mul-len c = record { fits = product_fits _ _ (search rules) (search rules) }
-
-pub returns-then-len-ne0 : goal.returns-then-len-ne0
-returns-then-len-ne0 c =
-    sym (len_off c.args.num c.args.den c.loop-i.place c.note_at-n.result _ _ c.note_at-n.ensures c.if-step-ne0.false c.if-len-ne0.true) ∙ c.loop-i.invariant.3
-
-pub loop-i-preserved : goal.loop-i-preserved
-loop-i-preserved c =
-    let next = on c.args.num c.args.den c.loop-i.place c.note_at-n.result _ _ c.note_at-n.ensures c.if-step-ne0.false c.if-len-ne0.false in
-    (omega arith, omega arith, omega arith, sym next ∙ c.loop-i.invariant.3)
+pub loop-place-preserved : goal.loop-place-preserved
+loop-place-preserved c =
+    let place = c.loop-place.place in
+    let next = ap (note_grid c.args.num c.args.den place) (next_note c.each-note-items.result.now place c.from-n.result _ c.loop-place-test.true c.from-n.ensures) in
+    sym (next ∙ on c.args.num c.args.den place c.from-n.result _ c.if-n-m-ne0.false c.if-n-m-ne0-2.false) ∙ c.loop-place.invariant
 
 pub returns : goal.returns
 returns c =
-    sym (all_on c.args.num c.args.den c.loop-i.place (drop c.loop-i.i c.args.words.now) (drop_of_length-le c.args.words.now {i = c.loop-i.i} c.loop-i-test.false)) ∙ c.loop-i.invariant.3
+    let place = c.loop-place.place in
+    let none = ap (note_grid c.args.num c.args.den place) (no_note c.each-note-items.result.now place c.loop-place-test.false) ∙ all_on c.args.num c.args.den place in
+    sym (ap grid_answer (sym c.loop-place.invariant ∙ none))

@@ -1,45 +1,49 @@
--- What is left to write are the notes of the window among the words that are left, for which there is room.
-use Rattle.std.proofs.Common.{◌≡◌, ℕ, ◌-◌, ◌*◌, ◌++◌, length, drop, refl, ap, ◌∙◌, arith, drop_of_length-le}
-use Rattle.notes.specs.Notes.{words_of, placed}
-use Rattle.notes.proofs.Laws.{begin, more_note, skip, finish}
-use Rattle.rhythm.proofs.Windows.{win, inside, behind, before, win_none}
+-- What is left to write are the notes of the window among those that are left, for which there is room.
+use Rattle.std.proofs.Common.{◌≡◌, ℕ, ◌-◌, ◌*◌, ◌++◌, length, drop, ap, ◌∙◌, arith}
+use Rattle.notes.specs.Notes.{notes_of, words_of, placed}
+use Rattle.notes.proofs.Laws.{begin_by, more_note, skip, finish, next_note, no_note}
+use Rattle.rhythm.specs.Cuts.{window}
+use Rattle.rhythm.proofs.Windows.{inside, behind, before, win_none}
 use Rattle.rhythm.proofs.cutting.write_window.Goals as goal
+use Rattle.rhythm.proofs.cutting.write_window.Goals.{then-start-n+then-step-len, then-start-n+else-step-len, else-start-n}
 
-pub loop-i-init : goal.loop-i-init
-loop-i-init c = (refl, omega arith, omega arith, begin _ _)
+pub loop-note-init : goal.loop-note-init
+loop-note-init c =
+    let e = ap (window c.args.start c.args.len) c.each-note-items.ensures.notes in
+    (omega (arith, ap length e), begin_by c.args.out.now (ap words_of e))
 
 pub put_note-requires : goal.put_note-requires
 put_note-requires c =
-    let e = ap length (inside c.args.start c.args.len c.note_at-n.result _ _ c.note_at-n.ensures c.if-start-n.true c.if-step-len.true) in
+    let next = next_note c.each-note-items.result.now c.loop-note.note-index c.from-n.result _ c.loop-note-test.true c.from-n.ensures in
+    let e = ap length (ap (window c.args.start c.args.len) next ∙ inside c.args.start c.args.len c.from-n.result _ c.if-start-n.true c.if-step-len.true) in
     omega (arith, e)
 
-pub loop-i-preserved-then-step-len : goal.loop-i-preserved-then-step-len
+pub loop-note-preserved : goal.loop-note-preserved
 unfolding words_of
-loop-i-preserved-then-step-len c =
-    let e = inside c.args.start c.args.len c.note_at-n.result _ _ c.note_at-n.ensures c.if-start-n.true c.if-step-len.true in
-    let k = ap length e in (
-      omega arith,
-      omega arith,
-      omega (arith, k),
-      rw (c.put_note.ensures, c.at.ensures) (more_note (placed (c.note_at-n.result.step - c.args.start) c.note_at-n.result) (omega (arith, k)) (ap words_of e) c.loop-i.invariant.3),
-    )
-
-pub loop-i-preserved-else-step-len : goal.loop-i-preserved-else-step-len
-loop-i-preserved-else-step-len c =
-    let e = behind c.args.start c.args.len c.note_at-n.result _ _ c.note_at-n.ensures c.if-start-n.true c.if-step-len.false in
-    let k = ap length e in
-    (omega arith, omega arith, omega (arith, k), skip (ap words_of e) c.loop-i.invariant.3)
-
-pub loop-i-preserved : goal.loop-i-preserved
-loop-i-preserved c =
-    let e = before c.args.start c.args.len c.note_at-n.result _ _ c.note_at-n.ensures c.if-start-n.false in
-    let k = ap length e in
-    (omega arith, omega arith, omega (arith, k), skip (ap words_of e) c.loop-i.invariant.3)
+loop-note-preserved c =
+    let start = c.args.start in
+    let len = c.args.len in
+    let n = c.from-n.result in
+    let next = ap (window start len) (next_note c.each-note-items.result.now c.loop-note.note-index n _ c.loop-note-test.true c.from-n.ensures) in
+    elim c.if-start-n.branch [
+      | then-start-n+then-step-len w ↦
+          let e = next ∙ inside start len n _ w.if-start-n.true w.if-step-len.true in
+          let k = ap length e in
+          (omega (arith, k, w.o-is), rw (w.out-is, w.o-is, w.put_note.ensures, w.at.ensures) (more_note (placed (n.step - start) n) (omega (arith, k)) (ap words_of e) c.loop-note.invariant.1))
+      | then-start-n+else-step-len w ↦
+          let e = next ∙ behind start len n _ w.if-start-n.true w.if-step-len.false in
+          let k = ap length e in
+          (omega (arith, k, w.o-is), rw (w.out-is, w.o-is) (skip (ap words_of e) c.loop-note.invariant.1))
+      | else-start-n w ↦
+          let e = next ∙ before start len n _ w.if-start-n.false in
+          let k = ap length e in
+          (omega (arith, k, w.o-is), rw (w.out-is, w.o-is) (skip (ap words_of e) c.loop-note.invariant.1))
+    ]
 
 pub returns : goal.returns
 unfolding words_of
 returns c =
-    let e = win_none c.args.start c.args.len (drop c.loop-i.i c.args.words.now) (drop_of_length-le c.args.words.now c.loop-i-test.false) in
-    let k = ap length e in
-    let m : c.loop-i.o ≡ 4 * length (win c.args.start c.args.len c.args.words.now) = omega (arith, k) in
-    finish _ _ _ _ _ (ap words_of e) c.loop-i.invariant.3 ∙ ap (λ (q : ℕ). words_of (win c.args.start c.args.len c.args.words.now) ++ drop q c.args.out.now) m
+    let win = window c.args.start c.args.len (notes_of c.args.words.now) in
+    let e = ap (window c.args.start c.args.len) (no_note c.each-note-items.result.now c.loop-note.note-index c.loop-note-test.false) ∙ win_none c.args.start c.args.len in
+    let m : c.loop-note.o ≡ 4 * length win = omega (arith, ap length e) in
+    finish _ _ _ _ _ (ap words_of e) c.loop-note.invariant.1 ∙ ap (λ (q : ℕ). words_of win ++ drop q c.args.out.now) m

@@ -1,6 +1,6 @@
 -- The calls one after the other; 0.0 and 1.0 are their bits.
-use Rattle.std.proofs.Common.{ap, ◌∙◌}
-use lib.Ieee.{binary32, mul, to_bits}
+use Rattle.std.proofs.Common.{ap, ◌∙◌, to_bits}
+use lib.Ieee.{binary32, mul}
 use Rattle.rounding.specs.Floats.{clamp}
 use Rattle.rounding.proofs.Laws.{zero_bits, one_bits}
 use Rattle.rhythm.specs.Values.{scaled_gain}

@@ -1,5 +1,5 @@
 -- By the sign of the shift, and whether the step is left of 0.
-use Rattle.std.proofs.Common.{◌≡◌, ℕ, ◌-◌, Bool, true, false, pos, ◌+ℤ◌, sym, ap, ◌∙◌, mod-lt, arith}
+use Rattle.std.proofs.Common.{◌≡◌, ℕ, Bool, true, false, pos, ◌+ℤ◌, sym, ap, ◌∙◌}
 use Rattle.numbers.specs.Signs.{with_sign}
 use Rattle.rhythm.specs.Values.{remainder}
 use Rattle.rhythm.proofs.Sums.{turned_on, turned_back, turned_below}
@@ -15,10 +15,6 @@ returns-then-not-back c =
 pub returns-then-size-s : goal.returns-then-size-s
 returns-then-size-s c =
     turned_back c.args.step c.args.total c.args.size c.if-size-s.true ∙ by_sign c.args.step c.args.size c.args.total true c.args.back (c.if-not-back.false)
-
-pub overflow_sub-result-5 : goal.overflow_sub-result-5
-overflow_sub-result-5 c =
-    omega (arith, mod-lt (c.args.size - c.args.step - 1) {m = c.args.total} c.requires.0)
 
 pub returns : goal.returns
 returns c =

@@ -1,29 +1,26 @@
--- The fronts of the lists have the lengths that the score counts.
-use mathlib.Core.Path.{sym, ◌∙◌}
-use Prim.Native.Nat.{◌*◌}
-use native.Mathlib.Omega.{arith}
-use lib.Seq.{length-take-le}
+-- Three parts one behind another.
+use Rattle.std.proofs.Common.{ap, arith, length}
+use Rattle.text.proofs.Laws.{append_front, append_as}
+use Rattle.score.specs.Bytes.{words_bytes}
+use Rattle.score_writer.proofs.Putting.{header_length, words_end, file_parts, same_points}
 use Rattle.score_writer.proofs.file.write.Goals as goal
 
-pub slice_bounds-parts-end : goal.slice_bounds-parts-end
-slice_bounds-parts-end c = sym (length-take-le _ _ (omega arith))
+pub words-requires : goal.words-requires
+words-requires c =
+    let long = ap length c.new-page.ensures.empty.0 in
+    let h = words_end _ (omega (arith, long, header_length c.args.music.score, c.new-page.ensures)) c.header.ensures in
+    omega (arith, long, h, header_length c.args.music.score, c.new-page.ensures)
 
-pub slice_bounds-parts-end-2 : goal.slice_bounds-parts-end-2
-slice_bounds-parts-end-2 c = sym (length-take-le _ _ (omega arith))
-
-pub slice_bounds-parts-end-3 : goal.slice_bounds-parts-end-3
-slice_bounds-parts-end-3 c = sym (length-take-le _ _ (omega arith))
-
-pub slice_bounds-parts-end-4 : goal.slice_bounds-parts-end-4
-slice_bounds-parts-end-4 c = sym (length-take-le _ _ (omega arith))
-
-pub parts-requires : goal.parts-requires
-parts-requires c =
-    let m = length-take-le (3 * c.args.score.meters) c.args.meter.now (omega arith) in
-    let n = length-take-le c.args.score.tempos c.args.nums.now (omega arith) in
-    let d = length-take-le c.args.score.tempos c.args.dens.now (omega arith) in
-    let b = length-take-le c.args.score.tempos c.args.bpms.now (omega arith) in
-    (omega arith, c.requires.1, c.requires.2, d ∙ sym n, b ∙ sym n)
+pub points-requires : goal.points-requires
+points-requires c =
+    let long = ap length c.new-page.ensures.empty.0 in
+    let h = words_end _ (omega (arith, long, header_length c.args.music.score, c.new-page.ensures)) c.header.ensures in
+    let w = words_end c.meter.result.now (omega (arith, long, h, header_length c.args.music.score, c.new-page.ensures)) c.words.ensures in
+    omega (arith, long, h, w, header_length c.args.music.score, c.new-page.ensures)
 
 pub returns : goal.returns
-returns c = c.parts.ensures
+returns c =
+    let t = c.tempo_map.ensures in
+    let empty = c.new-page.ensures.empty in
+    append_front empty
+    (file_parts c.args.music.score _ _ _ _ (omega (arith, empty)) c.header.ensures (append_as (ap words_bytes c.meter.ensures.words) c.words.ensures) (append_as (same_points t.nums t.dens t.tempos) c.points.ensures))

@@ -1,13 +1,8 @@
--- After k turns the first k words are put.
-use mathlib.Core.Path.{◌≡◌}
-use Prim.Native.Nat.{◌+◌, ◌-◌, ◌*◌, ◌≤◌}
-use lib.ListN.{length, take}
-use Rattle.text.specs.Texts.{Puts}
+-- The words so far are put.
+use Rattle.std.proofs.Common.{◌≡◌, length, take}
+use Rattle.text.specs.Pages.{Appends}
 use Rattle.score.specs.Bytes.{words_bytes}
 use Rattle.score_writer.proofs.words.words.Given as goal
 
-abbrev pub invariant-loop-k : goal.invariant-loop-k
-invariant-loop-k l = (l.k ≤ length l.words) × (length l.out ≡ length l.initial.out) × (l.p ≡ l.place + 4 * l.k) × Puts l.place (words_bytes (take l.k l.words)) l.initial.out l.p l.out
-
-abbrev pub decreases-loop-k : goal.decreases-loop-k
-decreases-loop-k l = length l.words - l.k
+abbrev pub invariant-loop-w : goal.invariant-loop-w
+invariant-loop-w l = (length l.page.out.now ≡ length l.initial.page.out.now) × Appends (words_bytes (take l.w-index l.words)) l.initial.page l.page

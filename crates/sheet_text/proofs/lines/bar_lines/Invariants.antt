@@ -1,16 +1,10 @@
--- After k turns the lines of the first k bars are put.
-use mathlib.Core.Path.{◌≡◌}
-use Prim.Native.Nat.{◌+◌, ◌-◌, ◌*◌, ◌≤◌}
-use lib.ListN.{length}
+-- The lines of the bars so far are put.
+use Rattle.std.proofs.Common.{◌≤◌, ◌+◌, ◌*◌}
 use Rattle.meter.specs.Meters.{points_of}
-use Rattle.tempo.specs.Tempos.{tempo_points}
-use Rattle.text.specs.Texts.{Puts}
+use Rattle.tempo.specs.Maps.{points}
+use Rattle.text.specs.Pages.{Appends}
 use Rattle.sheet_text.specs.Sheets.{lines_of}
 use Rattle.sheet_text.proofs.lines.bar_lines.Given as goal
 
 abbrev pub invariant-loop-bar : goal.invariant-loop-bar
-invariant-loop-bar l =
-    (l.bar ≤ l.bars) × (length l.out ≡ length l.initial.out) × (l.p ≤ l.place + 64 * l.bar) × Puts l.place (lines_of l.t (points_of l.words) (tempo_points l.nums l.dens l.tempos) l.bar) l.initial.out l.p l.out
-
-abbrev pub decreases-loop-bar : goal.decreases-loop-bar
-decreases-loop-bar l = l.bars - l.bar
+invariant-loop-bar l = (l.page.place ≤ l.initial.page.place + 64 * l.bar) × Appends (lines_of l.t (points_of l.words) (points l.map) l.bar) l.initial.page l.page

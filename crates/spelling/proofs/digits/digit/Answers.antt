@@ -1,25 +1,17 @@
--- Each arm is a law of `Reading`.
-use Rattle.std.proofs.Common.{arith}
-use Rattle.spelling.proofs.Reading.{before_0, digit_0, before_upper_a, digit_upper_a, before_a, digit_a, behind_f}
+-- Below 16 the digit that std reads is the definition's.
+use Rattle.std.proofs.Common.{◌<◌, ap, arith}
+use Rattle.std.specs.Char.{digit_value}
+use Rattle.spelling.proofs.Reading.{read_alike, reads_alike}
 use Rattle.spelling.proofs.digits.digit.Goals as goal
 
-pub returns-then-byte-lt48 : goal.returns-then-byte-lt48
-returns-then-byte-lt48 c = before_0 _ (omega arith)
-
-pub returns-then-byte-le57 : goal.returns-then-byte-le57
-returns-then-byte-le57 c = digit_0 _ (omega arith) (omega arith)
-
-pub returns-then-byte-lt65 : goal.returns-then-byte-lt65
-returns-then-byte-lt65 c = before_upper_a _ (omega arith) (omega arith)
-
-pub returns-then-byte-le70 : goal.returns-then-byte-le70
-returns-then-byte-le70 c = digit_upper_a _ (omega arith) (omega arith)
-
-pub returns-then-byte-lt97 : goal.returns-then-byte-lt97
-returns-then-byte-lt97 c = before_a _ (omega arith) (omega arith)
-
-pub returns-then-byte-le102 : goal.returns-then-byte-le102
-returns-then-byte-le102 c = digit_a _ (omega arith) (omega arith)
+pub returns-in_err-digit : goal.returns-in_err-digit
+returns-in_err-digit c =
+    let char = ap digit_value c.from.ensures in
+    rw c.from_residual.ensures (λ h. c.in_err-digit.ensures.value (omega (arith, h, reads_alike c.args.byte c.args.base (omega arith) h, char)))
 
 pub returns : goal.returns
-returns c = behind_f _ (omega arith)
+returns c =
+    let char = ap digit_value c.from.ensures in
+    let read : digit_value c.args.byte < c.args.base = omega (arith, char, c.in_ok-digit.ensures.value.0) in
+    let same = read_alike c.args.byte c.args.base (omega arith) read in
+    (omega (arith, same), omega (arith, same, char, c.in_ok-digit.ensures.value.1))

@@ -1,12 +1,11 @@
--- The length and the first two bytes, one after another.
-use Rattle.spelling.proofs.Tempos.{not_ten, not_zero, by_x}
+-- The length, and the first two bytes.
+use Rattle.std.proofs.Common.{◌∙◌}
+use borrow.Author.Tests.{ne_eqb}
+use Rattle.spelling.proofs.Tempos.{not_ten, by_start}
 use Rattle.spelling.proofs.points.is_bits.Goals as goal
 
-pub returns-then-word-ne10 : goal.returns-then-word-ne10
-returns-then-word-ne10 c = not_ten _ c.if-word-ne10.true
+pub returns-then-word-eq10 : goal.returns-then-word-eq10
+returns-then-word-eq10 c = c.starts_with.ensures.value ∙ by_start _ c.if-word-eq10.true
 
-pub returns-then-word-ne48 : goal.returns-then-word-ne48
-returns-then-word-ne48 c = not_zero _ c.if-word-ne10.false c.if-word-ne48.true
-
-pub returns : goal.returns
-returns c = by_x _ c.if-word-ne10.false c.if-word-ne48.false
+pub returns-else-word-eq10 : goal.returns-else-word-eq10
+returns-else-word-eq10 c = ne_eqb _ _ c.if-word-eq10.false ∙ not_ten _ c.if-word-eq10.false

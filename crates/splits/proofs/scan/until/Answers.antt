@@ -1,28 +1,18 @@
--- The run from the place where the loop stands ends where the whole run does.
-use mathlib.Core.Path.{refl, ap}
-use mathlib.Core.Bool.{not}
-use native.Mathlib.Omega.{arith}
-use borrow.Author.Tests.{eq-eqb, ne_eqb}
-use Rattle.splits.proofs.Runs.{past_stop, past_end, goes_on, stops}
+-- The first byte that std's search finds is where the run ends.
+use Rattle.std.proofs.Common.{drop, refl, rules, tests, eqb}
+use Rattle.std.proofs.lemmas.Iterator.{YieldsList-from_slice}
+use Rattle.std.proofs.lemmas.Iterator.Search.{position_from_yields_List}
+use Rattle.splits.specs.Splits.{other}
+use Rattle.splits.proofs.Places.{part_rest}
+use Rattle.splits.proofs.Searches.{at_some, at_none}
 use Rattle.splits.proofs.scan.until.Goals as goal
 
-pub loop-place-init : goal.loop-place-init
-loop-place-init c = record { begun = omega arith; within = omega arith; ahead = refl }
+pub returns-in-Some : goal.returns-in-Some
+returns-in-Some c =
+    let found = position_from_yields_List (λ b. eqb b c.args.mark) _ _ _ c.position.ensures.ran (YieldsList-from_slice (drop c.args.from c.args.text.now) (cc (part_rest c.args.from c.args.text.now))) (λ x b q k. search (rules, tests)) in
+    at_some (other c.args.mark) (λ b. eqb b c.args.mark) (λ b. refl) c.args.text.now c.args.from c.requires c.position.result found c.in-Some.n c.in-Some.is
 
-pub returns-then-text-place : goal.returns-then-text-place
-returns-then-text-place c = stops c.loop-place.invariant (past_stop _ _ _ (omega arith) (ap not (eq-eqb _ _ c.if-text-place.true)))
-
-pub loop-place-preserved : goal.loop-place-preserved
-loop-place-preserved c = goes_on c.loop-place.invariant (omega arith) (ap not (ne_eqb _ _ c.if-text-place.false))
-
-pub returns : goal.returns
-returns c = stops c.loop-place.invariant (past_end _ _ _ (omega arith))
-
-pub bounds-text-place : goal.bounds-text-place
-bounds-text-place c = omega arith
-
-pub overflow_add-place : goal.overflow_add-place
-overflow_add-place c = omega arith
-
-pub loop-place-smaller : goal.loop-place-smaller
-loop-place-smaller c = omega arith
+pub returns-in-None : goal.returns-in-None
+returns-in-None c =
+    let found = position_from_yields_List (λ b. eqb b c.args.mark) _ _ _ c.position.ensures.ran (YieldsList-from_slice (drop c.args.from c.args.text.now) (cc (part_rest c.args.from c.args.text.now))) (λ x b q k. search (rules, tests)) in
+    at_none (other c.args.mark) (λ b. eqb b c.args.mark) (λ b. refl) c.args.text.now c.args.from c.requires c.position.result found c.in-None.is

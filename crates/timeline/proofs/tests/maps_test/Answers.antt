@@ -1,16 +1,18 @@
--- 12 first, then the worse of what the two tests found.
-use Rattle.std.proofs.Common.{sym, ap, ◌∙◌}
-use borrow.Author.Tests.{not-true, not-false}
+-- The test's finding is the worse of the two maps', and the tempo map's lists are parallel where it passes.
+use Rattle.std.proofs.Common.{rules, ap, ◌∙◌}
 use Rattle.tempo.proofs.Laws.{finding}
-use Rattle.timeline.specs.Tests.{tested, worse, test_of, maps_test}
+use Rattle.timeline.specs.Tests.{worse, test_of, maps_test}
+use Rattle.timeline.proofs.Testing.{maps_parallel}
 use Rattle.timeline.proofs.tests.maps_test.Goals as goal
 
-pub returns-then-not-is_sound : goal.returns-then-not-is_sound
-unfolding test_of
-returns-then-not-is_sound c = rw (sym c.is_sound.ensures ∙ c.if-not-is_sound.true)
+pub returns-in_err-found-clause-test : goal.returns-in_err-found-clause-test
+unfolding maps_test
+returns-in_err-found-clause-test c =
+    let e = c.found.ensures ∙ ap (test_of c.args.t) (c.worse.ensures ∙ (λ i. worse (c.words_test.ensures i) (finding _ _ _ c.test.result c.test.ensures i))) in
+    search (rules, e)
 
-pub returns : goal.returns
-unfolding test_of maps_test
-returns c =
-    rw (sym c.is_sound.ensures ∙ c.if-not-is_sound.false)
-    (c.found.ensures ∙ ap tested (c.worse.ensures ∙ (λ i. worse (c.words_test.ensures i) (finding _ _ _ c.test.result c.test.ensures i))))
+pub invariant_of-result : goal.invariant_of-result
+unfolding maps_test
+invariant_of-result c =
+    let e = c.found.ensures ∙ ap (test_of c.args.t) (c.worse.ensures ∙ (λ i. worse (c.words_test.ensures i) (finding _ _ _ c.test.result c.test.ensures i))) in
+    record { parallel = maps_parallel _ _ _ _ c.args.words.now e c.in_ok-found.was }

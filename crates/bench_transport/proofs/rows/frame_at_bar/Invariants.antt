@@ -1,9 +1,0 @@
--- Each turn makes one call more, and leaves one turn fewer; nothing else is kept.
-use Prim.Native.Nat.{◌-◌}
-use Rattle.bench_transport.proofs.rows.frame_at_bar.Given as goal
-
-abbrev pub invariant-loop-i : goal.invariant-loop-i
-invariant-loop-i l = Unit {0}
-
-abbrev pub decreases-loop-i : goal.decreases-loop-i
-decreases-loop-i l = l.turns - l.i

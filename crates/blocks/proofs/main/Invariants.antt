@@ -1,8 +1,0 @@
--- Each turn makes a run and leaves one fewer to make; nothing else is kept.
-use Rattle.blocks.proofs.main.Given as goal
-
-abbrev pub invariant-loop-left : goal.invariant-loop-left
-invariant-loop-left l = Unit {0}
-
-abbrev pub decreases-loop-left : goal.decreases-loop-left
-decreases-loop-left l = l.left

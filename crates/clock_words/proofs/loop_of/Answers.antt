@@ -1,9 +1,0 @@
--- By the first word.
-use borrow.Author.Tests.{eq-eqb, ne_eqb}
-use Rattle.clock_words.proofs.loop_of.Goals as goal
-
-pub returns-then-on-eq0 : goal.returns-then-on-eq0
-returns-then-on-eq0 c = rw (eq-eqb _ _ c.if-on-eq0.true)
-
-pub returns-else-on-eq0 : goal.returns-else-on-eq0
-returns-else-on-eq0 c = rw (ne_eqb _ _ c.if-on-eq0.false)

@@ -1,0 +1,5 @@
+-- Each call has a tenth of the number.
+use Rattle.text.proofs.page.Page.+decimal.Given as goal
+
+abbrev pub decreases-decimal : goal.decreases-decimal
+decreases-decimal l = l.n
