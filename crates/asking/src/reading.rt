@@ -1,5 +1,5 @@
 // The questions of the input, and the loop that answers them.
-ghost use Rattle.std.specs.Prelude.{◌≤◌, ◌+◌, IsOk};
+ghost use Rattle.std.specs.Prelude.{◌≡◌, ◌≤◌, ◌+◌, ◌*◌, IfSome, slice_index};
 
 use crate::writing::{Answers, flush, unknown};
 use crate::{CHUNK, MOST};
@@ -8,7 +8,7 @@ use std::io::{Stdin, Stdout};
 
 // Why there is no question to answer.
 #[derive(Drop)]
-enum Unread {
+pub enum Unread {
     End,
     // The input ends within the question.
     Cut,
@@ -26,7 +26,7 @@ impl From<io::Error> for Unread {
 // The input, a chunk at a time.
 // Stays: bytes with places beside them, since std's buffered readers take heap, and memory is fixed here.
 #[derive(Drop)]
-struct Questions {
+pub struct Questions {
     stdin: Stdin,
     chunk: [u8; CHUNK],
     // What is still to be read of the chunk.
@@ -35,9 +35,16 @@ struct Questions {
     ghost within: { at ≤ end × end ≤ 65536 },
 }
 
+// The word of four bytes, the lowest first.
+fn word_of(bytes: [u8; 4]) -> u32
+    ensures { result ≡ slice_index bytes 0 + 256 * slice_index bytes 1 + 65536 * slice_index bytes 2 + 16777216 * slice_index bytes 3 }
+{
+    u32::from_le_bytes(bytes)
+}
+
 impl Questions {
     // The questions of an input that nothing is read of yet.
-    fn new(stdin: Stdin) -> Questions {
+    pub fn new(stdin: Stdin) -> Questions {
         Questions {
             stdin,
             chunk: [0u8; CHUNK],
@@ -47,13 +54,17 @@ impl Questions {
     }
 
     // The next four bytes, where so many are left.
-    fn first(&self) -> Result<[u8; 4], Unread>
-        ensures { IsOk result → self.now.at + 4 ≤ self.now.end }
+    fn first(&self) -> Option<[u8; 4]>
+        ensures { IfSome result (λ bytes. self.now.at + 4 ≤ self.now.end) }
     {
-        self.chunk[self.at..self.end]
-            .first_chunk()
-            .copied()
-            .ok_or(Unread::Cut)
+        self.chunk[self.at..self.end].first_chunk().copied()
+    }
+
+    // The next word, where all of it is held: what most words cost, so it hands no error on.
+    fn held(&mut self) -> Option<u32> {
+        let word = word_of(self.first()?);
+        self.at += 4;
+        Some(word)
     }
 
     // The next word, its lowest byte first.
@@ -66,9 +77,7 @@ impl Questions {
         if self.at == self.end {
             return Err(Unread::End);
         }
-        let word = u32::from_le_bytes(self.first()?);
-        self.at += 4;
-        Ok(word)
+        self.held().ok_or(Unread::Cut)
     }
 
     // The next word of a question that has begun.
@@ -80,18 +89,23 @@ impl Questions {
     }
 
     // The next question: its op, and its words at the start of q.
-    fn question<'a>(&mut self, q: &'a mut [u32; MOST]) -> Result<(u32, &'a [u32]), Unread> {
+    pub fn question<'a>(&mut self, q: &'a mut [u32; MOST]) -> Result<(u32, &'a [u32]), Unread> {
         let op = self.word()?;
         let n = self.word_within()? as usize;
         if n > MOST {
             for _ in 0..n {
-                self.word_within()?;
+                if self.held().is_none() {
+                    self.word_within()?;
+                }
             }
             return Err(Unread::TooLarge);
         }
         let words = &mut q[..n];
         for word in words.iter_mut() {
-            *word = self.word_within()?;
+            *word = match self.held() {
+                Some(held) => held,
+                None => self.word_within()?,
+            };
         }
         Ok((op, words))
     }

@@ -43,15 +43,12 @@ fn row<R: Env + Print, F: Fn(u32) -> u64>(
 ) -> io::Result<()>
     requires { F.IsAlwaysCallable word }
 {
-    let mut questions = [0u32; INPUTS];
-    maps::fill_spread(&mut questions, span);
-    benching::row(
-        rt,
-        call,
-        size,
-        few,
-        |turns| checksum(turns, |i| word(questions[input_of(i)])),
-    )
+    // the questions of a row that is not asked are not made
+    benching::row(rt, call, size, few, |turns| {
+        let mut questions = [0u32; INPUTS];
+        maps::fill_spread(&mut questions, span);
+        checksum(turns, |i| word(questions[input_of(i)]))
+    })
 }
 
 // The row of the beat at which a bar starts, over the first points of the map.

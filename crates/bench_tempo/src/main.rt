@@ -44,14 +44,11 @@ fn row<R: Env + Print, F: Fn(f64) -> u64>(
 ) -> io::Result<()>
     requires { F.IsAlwaysCallable word }
 {
-    let questions = spread(span);
-    benching::row(
-        rt,
-        call,
-        size,
-        FEW,
-        |turns| checksum(turns, |i| word(questions[input_of(i)])),
-    )
+    // the questions of a row that is not asked are not made
+    benching::row(rt, call, size, FEW, |turns| {
+        let questions = spread(span);
+        checksum(turns, |i| word(questions[input_of(i)]))
+    })
 }
 
 // The first points of a map.

@@ -157,15 +157,12 @@ fn row<R: Env + Print, F: Fn(u32) -> u64>(
 ) -> io::Result<()>
     requires { F.IsAlwaysCallable word }
 {
-    let mut questions = [0u32; INPUTS];
-    maps::fill_spread(&mut questions, span);
-    benching::row(
-        rt,
-        call,
-        size,
-        few,
-        |turns| checksum(turns, |i| word(questions[input_of(i)])),
-    )
+    // the questions of a row that is not asked are not made
+    benching::row(rt, call, size, few, |turns| {
+        let mut questions = [0u32; INPUTS];
+        maps::fill_spread(&mut questions, span);
+        checksum(turns, |i| word(questions[input_of(i)]))
+    })
 }
 
 // How many bars the questions are spread over.

@@ -90,9 +90,10 @@ fn frame<R: Env + Print, F: Fn(Beat, f32, u32) -> u64>(
 ) -> io::Result<()>
     requires { F.IsAlwaysCallable word }
 {
-    let mut speeds = [(0f32, 0u32); INPUTS];
-    inputs::fill(&mut speeds, inputs::speed);
     benching::row(rt, call, size, FEW, |turns| {
+        // not made for a row that is not asked
+        let mut speeds = [(0f32, 0u32); INPUTS];
+        inputs::fill(&mut speeds, inputs::speed);
         checksum(turns, |i| {
             let k = input_of(i);
             let (bpm, rate) = speeds[k];
@@ -114,32 +115,30 @@ fn beat_to_frames(beat: Beat, bpm: f32, rate: u32) -> u64 {
 }
 
 fn main(rt: HostRuntime) -> io::Result<()> {
-    let mut mixed = [Beat::zero(); INPUTS];
-    inputs::fill(&mut mixed, inputs::mixed);
-    one(&rt, "empty", "mixed", &mixed, beat_word)?;
-    two(&rt, "checked_add", "mixed", &mixed, checked_add)?;
-    two(&rt, "add", "mixed", &mixed, |a, b| {
+    // one list, filled anew for each set: a list each would take four times the stack
+    let mut beats = [Beat::zero(); INPUTS];
+    inputs::fill(&mut beats, inputs::mixed);
+    one(&rt, "empty", "mixed", &beats, beat_word)?;
+    two(&rt, "checked_add", "mixed", &beats, checked_add)?;
+    two(&rt, "add", "mixed", &beats, |a, b| {
         beats::sums::add(a, b).map_or_else(refusal_word, beat_word)
     })?;
-    two(&rt, "cmp", "mixed", &mixed, cmp)?;
+    two(&rt, "cmp", "mixed", &beats, cmp)?;
     two(
         &rt,
         "order",
         "mixed",
-        &mixed,
+        &beats,
         |a, b| order_word(beats::sums::order(a, b)),
     )?;
-    frame(&rt, "beat_to_frames", "mixed", &mixed, beat_to_frames)?;
-    frame(&rt, "frame_of", "mixed", &mixed, beats::frames::frame_of)?;
-    let mut grid = [Beat::zero(); INPUTS];
-    inputs::fill(&mut grid, inputs::grid);
-    two(&rt, "checked_add", "grid", &grid, checked_add)?;
-    two(&rt, "cmp", "grid", &grid, cmp)?;
-    frame(&rt, "beat_to_frames", "grid", &grid, beat_to_frames)?;
-    let mut small = [Beat::zero(); INPUTS];
-    inputs::fill(&mut small, inputs::small);
-    one(&rt, "new", "small", &small, new_word)?;
-    let mut large = [Beat::zero(); INPUTS];
-    inputs::fill(&mut large, inputs::large);
-    one(&rt, "new", "large", &large, new_word)
+    frame(&rt, "beat_to_frames", "mixed", &beats, beat_to_frames)?;
+    frame(&rt, "frame_of", "mixed", &beats, beats::frames::frame_of)?;
+    inputs::fill(&mut beats, inputs::grid);
+    two(&rt, "checked_add", "grid", &beats, checked_add)?;
+    two(&rt, "cmp", "grid", &beats, cmp)?;
+    frame(&rt, "beat_to_frames", "grid", &beats, beat_to_frames)?;
+    inputs::fill(&mut beats, inputs::small);
+    one(&rt, "new", "small", &beats, new_word)?;
+    inputs::fill(&mut beats, inputs::large);
+    one(&rt, "new", "large", &beats, new_word)
 }

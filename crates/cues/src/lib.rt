@@ -29,16 +29,10 @@ pub fn cue(t: Transport, lines: &[u64], frames: u64, out: &mut [u64]) -> Handed<
     ensures words { out.new ≡ cue_after t lines.now frames out.old }
 {
     if !t.is_sound() {
-        return Handed {
-            transport: t,
-            answer: Err(Refusal::Unsound),
-        };
+        return play::refused(t, Refusal::Unsound);
     }
     match Lines::tested(lines) {
         Ok(fine) => play::tested(t, fine, frames, out),
-        Err(why) => Handed {
-            transport: t,
-            answer: Err(why),
-        },
+        Err(why) => play::refused(t, why),
     }
 }

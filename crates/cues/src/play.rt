@@ -1,6 +1,7 @@
 // The call behind its tests.
 ghost use Rattle.std.specs.Prelude.{◌≡◌, true, ◌≤◌, ◌/◌, length};
 ghost use Rattle.transport.specs.Transports.{sound, playing};
+ghost use Rattle.transport.specs.Readings.{refused_by};
 ghost use Rattle.cues.specs.CueCall.{cue_answer, cue_after};
 ghost use Rattle.cues.specs.Readings.{read_cues};
 ghost use Rattle.cues.specs.Plans.{plan_cues, Fitting, counted_to, written};
@@ -11,6 +12,16 @@ use crate::{Cued, count, plan};
 use lines::Lines;
 use numbers::Refusal;
 use transport::{Handed, Transport, playhead};
+
+// A refusal hands back the old transport.
+pub fn refused(transport: Transport, why: Refusal) -> Handed<Cued>
+    ensures { result ≡ refused_by transport why }
+{
+    Handed {
+        transport,
+        answer: Err(why),
+    }
+}
 
 // The cues of a plan, written where there is room for all of them. The part of each stretch is
 // found once, and the number of cues is known before the first word.
@@ -60,16 +71,10 @@ fn played(t: Transport, lines: Lines, frames: u64, out: &mut [u64]) -> Handed<Cu
     ensures words { out.new ≡ cue_after t lines.entry.frames.now frames out.old }
 {
     if u64::MAX - t.position < frames {
-        return Handed {
-            transport: t,
-            answer: Err(Refusal::OutOfReach),
-        };
+        return refused(t, Refusal::OutOfReach);
     }
     match fill(lines, plan::make(t, frames), out) {
-        None => Handed {
-            transport: t,
-            answer: Err(Refusal::NoRoom),
-        },
+        None => refused(t, Refusal::NoRoom),
         Some(count) => {
             let run = playhead::advanced(t, frames);
             Handed {

@@ -29,6 +29,7 @@ fn lines_test(n: usize) -> Result<(), Refusal>
 }
 
 // The tempo map; 12, then 3, 4 and 1 of the maps and of the lines.
+#[tactic(auto, unfolding(timeline::specs::Tests::test_of))]
 fn test<'a>(
     t: Transport,
     words: &[u32],
@@ -40,8 +41,10 @@ fn test<'a>(
     ensures test { told result ≡ test_of t (worse (lines_test n) (maps_test words.now nums.now dens.now tempos.now)) }
     ensures lists { IfOk result (λ map. (map.nums.now ≡ nums.now) × (map.dens.now ≡ dens.now) × (map.tempos.now ≡ tempos.now)) }
 {
+    // first, so that an unsound transport costs no look at its maps
+    tests::found(t, Ok(()))?;
     let maps = tests::worse(tests::words_test(words), tempo::test(nums, dens, tempos));
-    tests::found(t, tests::worse(lines_test(n), maps))?;
+    tests::worse(lines_test(n), maps)?;
     Ok(TempoMap { nums, dens, tempos })
 }
 

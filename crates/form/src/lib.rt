@@ -23,6 +23,11 @@ pub struct WrongLine {
 }
 
 impl fmt::Display for WrongLine {
+    ghost use Rattle.std.specs.Prelude.{Some};
+    ghost use Rattle.form.specs.Messages.{wrong_text};
+
+    ghost output = { λ wrong. Some (wrong_text wrong) };
+
     fn fmt<W: fmt::Write>(&self, f: &mut fmt::Formatter<W>) -> fmt::Result {
         write!(f, "line {}: {}", self.line, self.reason)
     }

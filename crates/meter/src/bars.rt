@@ -172,10 +172,12 @@ impl<'a> MeterMap<'a> {
 
     // What every start of the map begins with.
     pub fn open(&self) -> Opening<'a>
-        ensures { result.map ≡ self.now }
+        ensures map { result.map ≡ self.now }
+        ensures opened { opening_of (points_of self.now.words.now) self.now.default self.now.pickup ≡ (result.ascending, result.one) }
     {
-        let zero = Beat::zero();
-        let one = sums::or_most(sums::add(zero, self.length(0)));
+        // 0 and a length: a sum that nothing refuses, so it is the length in lowest terms
+        let Beat { num, den } = self.length(0);
+        let one = Beat::new(num, den);
         Opening {
             map: *self,
             ascending: self.ascending(),
@@ -195,9 +197,9 @@ impl<'a> MeterMap<'a> {
 #[derive(Clone, Copy)]
 pub struct Opening<'a> {
     pub map: MeterMap<'a>,
-    ascending: bool,
-    one: Beat,
-    ghost opened: { opening_of (points_of map.words.now) map.default map.pickup ≡ (ascending, one) },
+    pub ascending: bool,
+    pub one: Beat,
+    pub ghost opened: { opening_of (points_of map.words.now) map.default map.pickup ≡ (ascending, one) },
 }
 
 impl<'a> Opening<'a> {

@@ -22,12 +22,12 @@ pub returns-in-Some : goal.returns-in-Some
 returns-in-Some c =
     let map = c.args.self.now in
     c.first_bar.ensures
-    ∙ ap (λ (m : MeterMap). halving (reaches (points_of m.words.now) m.default m.pickup c.args.beat) 32 0 c.in-Some.hi) c.open-opening.ensures
+    ∙ ap (λ (m : MeterMap). halving (reaches (points_of m.words.now) m.default m.pickup c.args.beat) 32 0 c.in-Some.hi) c.open-opening.ensures.map
     ∙ count_within (points_of map.words.now) map.default map.pickup c.args.beat _ (tested _ _ _ c.args.beat c.zero.ensures c.below.ensures c.if-not-below.false)
-    (sym c.in-Some.is ∙ c.upper_bar.ensures ∙ ap (λ (m : MeterMap). doubling (reaches (points_of m.words.now) m.default m.pickup c.args.beat) 32 1) c.open-opening.ensures)
+    (sym c.in-Some.is ∙ c.upper_bar.ensures ∙ ap (λ (m : MeterMap). doubling (reaches (points_of m.words.now) m.default m.pickup c.args.beat) 32 1) c.open-opening.ensures.map)
 
 pub returns-in-None : goal.returns-in-None
 returns-in-None c =
     let map = c.args.self.now in
     count_within (points_of map.words.now) map.default map.pickup c.args.beat _ (tested _ _ _ c.args.beat c.zero.ensures c.below.ensures c.if-not-below.false)
-    (sym c.in-None.is ∙ c.upper_bar.ensures ∙ ap (λ (m : MeterMap). doubling (reaches (points_of m.words.now) m.default m.pickup c.args.beat) 32 1) c.open-opening.ensures)
+    (sym c.in-None.is ∙ c.upper_bar.ensures ∙ ap (λ (m : MeterMap). doubling (reaches (points_of m.words.now) m.default m.pickup c.args.beat) 32 1) c.open-opening.ensures.map)
