@@ -17,7 +17,7 @@ pub use fields::{f32_at, f64_at, i64_at, u32_at, u64_at};
 pub use lists::{
     i64s, lend, longs, mark_u32s, mark_u64s, part, past, past_longs, past_words, u64s, words,
 };
-pub use reading::{Questions, Unread, answer_all};
+pub use reading::answer_all;
 pub use writing::{
     Answers, answer_line, answered, end_line, first, flush, more, more_all, refusal, refused,
     unknown,

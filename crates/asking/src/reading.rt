@@ -8,7 +8,7 @@ use std::io::{Stdin, Stdout};
 
 // Why there is no question to answer.
 #[derive(Drop)]
-pub enum Unread {
+enum Unread {
     End,
     // The input ends within the question.
     Cut,
@@ -26,7 +26,7 @@ impl From<io::Error> for Unread {
 // The input, a chunk at a time.
 // Stays: bytes with places beside them, since std's buffered readers take heap, and memory is fixed here.
 #[derive(Drop)]
-pub struct Questions {
+struct Questions {
     stdin: Stdin,
     chunk: [u8; CHUNK],
     // What is still to be read of the chunk.
@@ -44,7 +44,7 @@ fn word_of(bytes: [u8; 4]) -> u32
 
 impl Questions {
     // The questions of an input that nothing is read of yet.
-    pub fn new(stdin: Stdin) -> Questions {
+    fn new(stdin: Stdin) -> Questions {
         Questions {
             stdin,
             chunk: [0u8; CHUNK],
@@ -89,7 +89,7 @@ impl Questions {
     }
 
     // The next question: its op, and its words at the start of q.
-    pub fn question<'a>(&mut self, q: &'a mut [u32; MOST]) -> Result<(u32, &'a [u32]), Unread> {
+    fn question<'a>(&mut self, q: &'a mut [u32; MOST]) -> Result<(u32, &'a [u32]), Unread> {
         let op = self.word()?;
         let n = self.word_within()? as usize;
         if n > MOST {
