@@ -1,4 +1,4 @@
--- What the words of a question are as a Pickup, a Transport and maps. A word past the question's end counts as 0.
+-- What the words of a question are as a pickup, a transport and maps. A word past the question's end counts as 0.
 use Rattle.std.specs.Prelude.{ℕ, ◌+◌, Bool, cond, ◌&&◌, List, leb, eqb, length, get_or, Option, Some, None}
 use Rattle.std.specs.Float.{binary32}
 use Rattle.std.specs.Float.Ieee.{of_bits}

@@ -10,11 +10,15 @@ ghost use Rattle.between.specs.Copies.{part_answer, part_after, copy_answer, cop
 use numbers::Refusal;
 
 // Copies lines to the front of out.
+// Stays: a loop, where `copy_from_slice` would do, for the wrong edit that leaves out every second
+// line; and not one with the copy of `notes`, since each crate has wrong edits of its own copy.
 fn copy(part: &[u64], out: &mut [u64])
     requires { length part.now ≤ length out.old }
     ensures { out.new ≡ over part.now out.old }
 {
-    out[..part.len()].copy_from_slice(part);
+    for (i, line) in part.iter().enumerate() {
+        out[i] = *line;
+    }
 }
 
 // A part of lines that the test passes, copied.

@@ -1,4 +1,4 @@
--- What the call promises: its answer is Fits exactly where the score fits, in the words of document 01, for every bar from 0 to 2^31.
+-- What the call promises: it answers `Ok true` exactly where the score fits, in the words of document 01, for every bar from 0 to 2^31.
 use Rattle.std.specs.Prelude.{true, ◌≡◌, List, ℕ, ◌%◌, length, Option, Result, Ok, Bool}
 use Rattle.numbers.specs.declared.refusal.Refusal.{Refusal}
 use Rattle.numbers.specs.Refusals.{read}

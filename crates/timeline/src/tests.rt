@@ -57,6 +57,7 @@ pub fn found(t: Transport, finding: Result<(), Refusal>) -> Result<(), Refusal>
 
 // A transport with a tempo map.
 #[tactic(auto, unfolding(crate::specs::Tests::test_of), using(tempo::proofs::Testing::finding, crate::proofs::Testing::tempo_parallel))]
+#[inline]
 pub fn tempo_test<'a>(
     t: Transport,
     nums: &'a [i64],
@@ -74,6 +75,7 @@ pub fn tempo_test<'a>(
 
 // A transport with both maps.
 #[tactic(auto, unfolding(crate::specs::Tests::maps_test, crate::specs::Tests::test_of), using(tempo::proofs::Testing::finding, crate::proofs::Testing::maps_parallel))]
+#[inline]
 pub fn maps_test<'a>(
     t: Transport,
     words: &[u32],
